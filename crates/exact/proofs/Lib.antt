@@ -1,0 +1,11 @@
+pub mod Ring
+pub mod Lowest
+pub mod Unique
+pub mod Root
+pub mod Sum
+pub mod Positive
+pub mod Order
+pub mod Products
+pub mod Kept
+pub mod Turns
+pub mod Told

@@ -1,0 +1,4 @@
+pub mod Number
+pub mod Order
+pub mod Plane
+pub mod Floor
