@@ -1,0 +1,13 @@
+pub mod RootRing
+pub mod Solve
+pub mod Domain
+pub mod Gap
+pub mod PointOrder
+pub mod Lines
+pub mod Directions
+pub mod Segments
+pub mod Parts
+pub mod Plain
+pub mod Partner
+pub mod Sizes
+pub mod Found

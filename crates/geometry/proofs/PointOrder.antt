@@ -1,0 +1,90 @@
+-- The order of points is total.
+use Rattle.std.proofs.Common.{◌≡◌, refl, sym, ap, ◌∙◌, ◌⊎◌, inl, inr}
+use Rattle.std.specs.Prelude.{◌↔◌}
+use Rattle.std.specs.declared.cmp.Ordering.{Ordering}
+use Rattle.std.specs.declared.cmp.Ordering.TheVariants as o
+use Rattle.std.specs.Ordering.{on, then_cmp, ordering_then, ordering_reverse}
+use Rattle.std.specs.Cmp.{IsTotalOrder, tied_itself}
+use Rattle.std.proofs.lemmas.Cmp.{on_total, then_total, tied_back, alike_right}
+use Rattle.exact.specs.Number.{ExactNumber, Same, Less}
+use Rattle.exact.specs.Order.{real_cmp}
+use Rattle.exact.specs.Plane.{ExactPoint, SamePoint, Before}
+use Rattle.exact.proofs.Positive.{less_trans}
+use Rattle.exact.proofs.Order.{real_total, real_less, real_equal, less_of, same_of, first_equal}
+
+abbrev pub point_real_cmp : ExactPoint → ExactPoint → Ordering
+point_real_cmp = then_cmp (on (λ s. s.x) real_cmp) (on (λ s. s.y) real_cmp)
+
+pub points_total : IsTotalOrder point_real_cmp
+points_total = then_total (on_total (λ s. s.x) real_total) (on_total (λ s. s.y) real_total)
+
+pub first_less : (r s : Ordering) → ordering_then r s ≡ o.Less → (r ≡ o.Less) ⊎ ((r ≡ o.Equal) × (s ≡ o.Less))
+first_less o.Less s e = inl refl
+first_less o.Equal s e = inr (refl, e)
+first_less o.Greater s e = absurd (cc)
+
+pub before_cmp : (p q : ExactPoint) → Before p q ↔ (point_real_cmp p q ≡ o.Less)
+before_cmp p q = (
+  λ h. elim h [
+    | inl l ↦ ap (λ r. ordering_then r (real_cmp p.y q.y)) (real_less p.x q.x l)
+    | inr k ↦ ap (λ r. ordering_then r (real_cmp p.y q.y)) (real_equal p.x q.x k.0) ∙ real_less p.y q.y k.1
+  ],
+  λ e. elim (first_less (real_cmp p.x q.x) (real_cmp p.y q.y) e) [
+    | inl l ↦ inl (less_of p.x q.x l)
+    | inr k ↦ inr (same_of p.x q.x k.0, less_of p.y q.y k.1)
+  ],
+)
+
+pub same_cmp : (p q : ExactPoint) → SamePoint p q ↔ (point_real_cmp p q ≡ o.Equal)
+same_cmp p q = (λ s. ap (λ r. ordering_then r (real_cmp p.y q.y)) (real_equal p.x q.x s.x) ∙ real_equal p.y q.y s.y, λ e. (let f = first_equal (real_cmp p.x q.x) (real_cmp p.y q.y) e in record { x = same_of p.x q.x f.0; y = same_of p.y q.y f.1 }))
+
+pub before_trans : (p q r : ExactPoint) → Before p q → Before q r → Before p r
+before_trans p q r h k = (before_cmp p r).1 (points_total.trans p q r ((before_cmp p q).0 h) ((before_cmp q r).0 k))
+
+pub before_not_same : (p q : ExactPoint) → Before p q → SamePoint p q → ⊥
+before_not_same p q h s = let e = (before_cmp p q).0 h in let f = (same_cmp p q).0 s in cc
+
+pub same_back : (p q : ExactPoint) → SamePoint p q → SamePoint q p
+same_back p q s = (same_cmp q p).1 (tied_back points_total p q ((same_cmp p q).0 s))
+
+pub same_itself : (p : ExactPoint) → SamePoint p p
+same_itself p = (same_cmp p p).1 (tied_itself points_total p)
+
+pub before_not_itself : (p : ExactPoint) → Before p p → ⊥
+before_not_itself p h = before_not_same p p h (same_itself p)
+
+pub before_not_back : (p q : ExactPoint) → Before p q → Before q p → ⊥
+before_not_back p q h k = before_not_itself p (before_trans p q p h k)
+
+pub same_before : (p q r : ExactPoint) → SamePoint p q → Before p r → Before q r
+same_before p q r s h = (before_cmp q r).1 (sym (points_total.congr p q r ((same_cmp p q).0 s)) ∙ (before_cmp p r).0 h)
+
+pub before_same : (p q r : ExactPoint) → SamePoint q r → Before p q → Before p r
+before_same p q r s h = (before_cmp p r).1 (sym (alike_right points_total q r p ((same_cmp q r).0 s)) ∙ (before_cmp p q).0 h)
+
+cases : (r : Ordering) → (r ≡ o.Less) ⊎ ((r ≡ o.Equal) ⊎ (r ≡ o.Greater))
+cases o.Less = inl refl
+cases o.Equal = inr (inl refl)
+cases o.Greater = inr (inr refl)
+
+pub ordered : (p q : ExactPoint) → Before p q ⊎ (SamePoint p q ⊎ Before q p)
+ordered p q = elim (cases (point_real_cmp p q)) [
+  | inl l ↦ inl ((before_cmp p q).1 l)
+  | inr k ↦ elim k [
+    | inl e ↦ inr (inl ((same_cmp p q).1 e))
+    | inr g ↦ inr (inr ((before_cmp q p).1 (points_total.antisymm q p ∙ ap ordering_reverse g)))
+  ]
+]
+
+-- neither is before the other
+pub tied : (p q : ExactPoint) → (Before p q → ⊥) → (Before q p → ⊥) → SamePoint p q
+tied p q h k = elim (ordered p q) [ inl l ↦ absurd (h l) | inr r ↦ elim r [ inl s ↦ s | inr g ↦ absurd (k g) ] ]
+
+pub same_trans : (p q r : ExactPoint) → SamePoint p q → SamePoint q r → SamePoint p r
+same_trans p q r h k = (same_cmp p r).1 (points_total.congr p q r ((same_cmp p q).0 h) ∙ (same_cmp q r).0 k)
+
+pub less_not_same : (x y : ExactNumber) → Less x y → Same x y → ⊥
+less_not_same x y h s = let e = real_less x y h in let f = real_equal x y s in cc
+
+pub less_not_back : (x y : ExactNumber) → Less x y → Less y x → ⊥
+less_not_back x y h k = less_not_same x x (less_trans x y x h k) (record { a = refl; b = refl })
