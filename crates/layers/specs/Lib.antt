@@ -1,0 +1,5 @@
+pub mod Star
+pub mod Sectors
+pub mod LayerOrder
+pub mod Stack
+pub mod Rows
