@@ -1,0 +1,8 @@
+use Rattle.layers.proofs.Places.{behind_last, behind_other}
+use Rattle.crimp.proofs.crimping.behind.Goals as goal
+
+pub returns-then-i-count-clause-value : goal.returns-then-i-count-clause-value
+returns-then-i-count-clause-value c = behind_last c.args.count c.args.i c.if-i-count.true
+
+pub returns-else-i-count-clause-value : goal.returns-else-i-count-clause-value
+returns-else-i-count-clause-value c = behind_other c.args.count c.args.i c.if-i-count.false

@@ -1,0 +1,11 @@
+pub mod Rules
+pub mod Undoing
+pub mod Cyclic
+pub mod Crimping
+pub mod Cycle
+pub mod Foldable
+pub mod Crimps
+pub mod BlockedRun
+pub mod Answers
+pub mod Entries
+pub mod StarLaw
