@@ -1,0 +1,115 @@
+-- Two segments with one support lie on one line, and two with different ones do not overlap.
+use Rattle.std.proofs.Common.{◌≡◌, ◌≢◌, ℕ, ◌<◌, [], ◌∷◌, refl, sym, subst, ◌∙◌, ◌⊎◌, inl, inr, arith}
+use Rattle.std.specs.Prelude.{◌↔◌}
+use Rattle.std.proofs.lemmas.Bool.{cases_order}
+use Rattle.std.specs.declared.cmp.Ordering.TheVariants as o
+use Rattle.std.specs.Ordering.{nat_cmp}
+use Rattle.std.specs.Cmp.{IsTotalOrder, nat_cmp_total}
+use Rattle.std.proofs.lemmas.Cmp.{on_total, then_total}
+use Rattle.std.proofs.lemmas.Map.Lookups.{exact_unsigned}
+use Rattle.exact.specs.Order.{triple_cmp}
+use Rattle.exact.proofs.Order.{first_equal, triple_exact, triple_total}
+use Rattle.exact.specs.Number.{ExactNumber, Same, mul}
+use Rattle.exact.specs.Plane.{ExactPoint, ExactSegment, IsSegment, Overlap, vector, turn}
+use Rattle.exact.proofs.Unique.{unique_lowest, same_trans}
+use Rattle.geometry.specs.Root.{Root, plus, times, minus, count}
+use Rattle.geometry.specs.Gap.{num, dn, cross}
+use Rattle.geometry.specs.Meeting.{Along}
+use Rattle.geometry.proofs.Solve.{at, one, add, mul as mul_term, opp, solve}
+use Rattle.geometry.proofs.Gap.{num_mul, dn_mul, num_sub, dn_sub, same_num, num_same, difference_none, none_difference, dn_one}
+use Rattle.geometry.proofs.Lines.{On, cross_is}
+use Rattle.geometry.proofs.Directions.{vector_whole, one_direction}
+use Rattle.geometry.proofs.Segments.{one_common, none_common}
+use Rattle.geometry.proofs.Found.{along_half, one_along}
+use Rattle.plane.specs.Ways.{offset_of}
+use Rattle.plane.specs.Support.{ExactLine, IsSupportOf, line_cmp}
+
+left_terms : (vx vy px py dpx dpy : Root) → plus (times (times vx py) (times (count 1) dpx)) (minus (times (times vy px) (times (count 1) dpy))) ≡ plus (times vx (times py dpx)) (minus (times vy (times px dpy)))
+left_terms vx vy px py dpx dpy = solve (vx ∷ vy ∷ px ∷ py ∷ dpx ∷ dpy ∷ [])
+    (add (mul_term (mul_term (at 0) (at 3)) (mul_term one (at 4))) (opp (mul_term (mul_term (at 1) (at 2)) (mul_term one (at 5)))))
+    (add (mul_term (at 0) (mul_term (at 3) (at 4))) (opp (mul_term (at 1) (mul_term (at 2) (at 5))))) refl
+
+-- the turn from a direction's vector to a point, over the product of the point's denominators
+pub turn_num : (k : ℕ) (p : ExactPoint) → num (turn (vector k) p) ≡ offset_of k (times (num p.x) (dn p.y)) (times (num p.y) (dn p.x))
+turn_num k p =
+    num_sub (mul (vector k).x p.y) (mul (vector k).y p.x)
+    ∙ rw (num_mul (vector k).x p.y, num_mul (vector k).y p.x, dn_mul (vector k).x p.y, dn_mul (vector k).y p.x, dn_one (vector k).x (vector_whole k).x, dn_one (vector k).y (vector_whole k).y)
+    (left_terms (num (vector k).x) (num (vector k).y) (num p.x) (num p.y) (dn p.x) (dn p.y))
+
+down_terms : (dpx dpy : Root) → times (times (count 1) dpy) (times (count 1) dpx) ≡ times dpx dpy
+down_terms dpx dpy = solve (dpx ∷ dpy ∷ []) (mul_term (mul_term one (at 1)) (mul_term one (at 0))) (mul_term (at 0) (at 1)) refl
+
+pub turn_dn : (k : ℕ) (p : ExactPoint) → dn (turn (vector k) p) ≡ times (dn p.x) (dn p.y)
+turn_dn k p =
+    dn_sub (mul (vector k).x p.y) (mul (vector k).y p.x)
+    ∙ rw (dn_mul (vector k).x p.y, dn_mul (vector k).y p.x, dn_one (vector k).x (vector_whole k).x, dn_one (vector k).y (vector_whole k).y) (down_terms (dn p.x) (dn p.y))
+
+cross_terms : (vx vy px py dpx dpy rx ry drx dry : Root) →
+    plus (times (plus (times vx (times ry drx)) (minus (times vy (times rx dry)))) (times dpx dpy)) (minus (times (plus (times vx (times py dpx)) (minus (times vy (times px dpy)))) (times drx dry)))
+    ≡ plus (times vx (times (plus (times ry dpy) (minus (times py dry))) (times drx dpx))) (minus (times vy (times (plus (times rx dpx) (minus (times px drx))) (times dry dpy))))
+cross_terms vx vy px py dpx dpy rx ry drx dry = solve (vx ∷ vy ∷ px ∷ py ∷ dpx ∷ dpy ∷ rx ∷ ry ∷ drx ∷ dry ∷ [])
+    (add (mul_term (add (mul_term (at 0) (mul_term (at 7) (at 8))) (opp (mul_term (at 1) (mul_term (at 6) (at 9))))) (mul_term (at 4) (at 5))) (opp (mul_term (add (mul_term (at 0) (mul_term (at 3) (at 4))) (opp (mul_term (at 1) (mul_term (at 2) (at 5))))) (mul_term (at 8) (at 9)))))
+    (add (mul_term (at 0) (mul_term (add (mul_term (at 7) (at 5)) (opp (mul_term (at 3) (at 9)))) (mul_term (at 8) (at 4)))) (opp (mul_term (at 1) (mul_term (add (mul_term (at 6) (at 4)) (opp (mul_term (at 2) (at 8)))) (mul_term (at 9) (at 5)))))) refl
+
+-- the turns to two points differ by the turn of the way between them
+turns_apart : (k : ℕ) (p r : ExactPoint) → plus (times (num (turn (vector k) r)) (dn (turn (vector k) p))) (minus (times (num (turn (vector k) p)) (dn (turn (vector k) r)))) ≡ cross (vector k) p r
+turns_apart k p r = rw (turn_num k r, turn_num k p, turn_dn k p, turn_dn k r)
+    (cross_terms (num (vector k).x) (num (vector k).y) (num p.x) (num p.y) (dn p.x) (dn p.y) (num r.x) (num r.y) (dn r.x) (dn r.y) ∙ sym (cross_is (vector k) p r))
+
+-- two points have one turn exactly where the line through one goes through the other
+pub turn_same : (k : ℕ) (p r : ExactPoint) → Same (turn (vector k) p) (turn (vector k) r) ↔ (cross (vector k) p r ≡ count 0)
+turn_same k p r = (
+  λ s. sym (turns_apart k p r) ∙ none_difference _ _ (sym (same_num (turn (vector k) p) (turn (vector k) r) s)),
+  λ e. num_same (turn (vector k) p) (turn (vector k) r) (sym (difference_none _ _ (turns_apart k p r ∙ e))),
+)
+
+flip : (x y : ExactNumber) → Same x y → Same y x
+flip x y s = record { a = sym s.a; b = sym s.b }
+
+-- one support: one line
+pub one_support : (s t : ExactSegment) (l : ExactLine) → IsSupportOf s l → IsSupportOf t l → On (vector l.dir) s.p t.p
+one_support s t l a b = record { on = (turn_same l.dir s.p t.p).0 (same_trans l.offset (turn (vector l.dir) s.p) (turn (vector l.dir) t.p) a.offset b.offset) }
+
+pub support_along : (s : ExactSegment) (l : ExactLine) → IsSegment s → IsSupportOf s l → Along s l.dir
+support_along s l h a = record { small = a.small; ordered = h.0; dir = a.dir }
+
+lines_equal : (l m : ExactLine) → l.dir ≡ m.dir → l.offset ≡ m.offset → l ≡ m
+lines_equal l m p q = λ i. record { dir = p i; offset = q i }
+
+-- two supports: no overlap
+pub other_support : (s t : ExactSegment) (l m : ExactLine) → IsSegment s → IsSegment t → IsSupportOf s l → IsSupportOf t m → l ≢ m → ¬ Overlap s t
+other_support s t l m h k a b n o = elim (cases_order l.dir m.dir) [
+  | inl e ↦ (let moved = subst (λ j. Along t j) (sym e) along_t in
+      none_common s t l.dir o.0 along_s moved (λ on. n (lines_equal l m e (unique_lowest l.offset m.offset a.lowest.positive a.lowest.lowest b.lowest.positive b.lowest.lowest (together e on)))) o.3)
+  | inr q ↦ o.2 (one_common s t l.dir m.dir o.0 o.1 along_s along_t (λ e. apart q (one_direction l.dir m.dir a.small b.small (along_half s l.dir along_s) (along_half t m.dir along_t) e)) o.3 o.4)
+]
+  where
+    along_s : Along s l.dir
+    along_s = support_along s l h a
+
+    along_t : Along t m.dir
+    along_t = support_along t m k b
+
+    apart : (l.dir < m.dir) ⊎ (m.dir < l.dir) → l.dir ≡ m.dir → ⊥
+    apart (inl g) e = omega (arith, g, e)
+    apart (inr g) e = omega (arith, g, e)
+
+    together : l.dir ≡ m.dir → On (vector l.dir) s.p t.p → Same l.offset m.offset
+    together e on =
+        let here : Same (turn (vector l.dir) s.p) (turn (vector l.dir) t.p) = (turn_same l.dir s.p t.p).1 on.on in
+        let there : Same m.offset (turn (vector l.dir) t.p) = subst (λ j. Same m.offset (turn (vector j) t.p)) (sym e) b.offset in
+        same_trans (turn (vector l.dir) t.p) l.offset m.offset (flip l.offset (turn (vector l.dir) t.p) (same_trans (turn (vector l.dir) s.p) l.offset (turn (vector l.dir) t.p) (flip l.offset (turn (vector l.dir) s.p) a.offset) here)) (flip m.offset (turn (vector l.dir) t.p) there)
+
+-- a segment has one support
+pub one_line_only : (s : ExactSegment) (l m : ExactLine) → IsSegment s → IsSupportOf s l → IsSupportOf s m → l ≡ m
+one_line_only s l m h a b =
+    let e : l.dir ≡ m.dir = one_along s l.dir m.dir (support_along s l h a) (support_along s m h b) in
+    let there : Same m.offset (turn (vector l.dir) s.p) = subst (λ j. Same m.offset (turn (vector j) s.p)) (sym e) b.offset in
+    lines_equal l m e (unique_lowest l.offset m.offset a.lowest.positive a.lowest.lowest b.lowest.positive b.lowest.lowest
+    (same_trans (turn (vector l.dir) s.p) l.offset m.offset (flip l.offset (turn (vector l.dir) s.p) a.offset) (flip m.offset (turn (vector l.dir) s.p) there)))
+
+pub line_exact : (l m : ExactLine) → line_cmp l m ≡ o.Equal → l ≡ m
+line_exact l m e = (let parts = first_equal (nat_cmp l.dir m.dir) (triple_cmp l.offset m.offset) e in lines_equal l m (exact_unsigned l.dir m.dir parts.0) (triple_exact l.offset m.offset parts.1))
+
+pub line_total : IsTotalOrder line_cmp
+line_total = then_total (on_total (λ (l : ExactLine). l.dir) nat_cmp_total) (on_total (λ (l : ExactLine). l.offset) triple_total)

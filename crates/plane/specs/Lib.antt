@@ -1,0 +1,11 @@
+pub mod Ways
+pub mod Sides
+pub mod Segments
+pub mod Corners
+pub mod Order
+pub mod Support
+pub mod PointText
+pub mod Crossings
+pub mod Meets
+pub mod PointReads
+pub mod Images

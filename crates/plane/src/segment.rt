@@ -1,0 +1,165 @@
+//! Segments: two ends in order, joined by one of the sixteen directions.
+ghost use Rattle.std.specs.Prelude.{◌≡◌, ◌≢◌, ℕ, ◌<◌, ◌≤◌, ◌^◌, ◌%◌, IfOk, IfSome, IsNone, IsTrue, ◌↔◌, Err};
+ghost use Rattle.exact.specs.Plane.{ExactSegment, Before, DirOf, IsSegment, OnSeg, IsPointCanonical};
+ghost use Rattle.geometry.specs.Root.{size};
+ghost use Rattle.plane.specs.Ways.{root, IsAlong, IsAhead};
+ghost use Rattle.plane.specs.Segments.{HasEnds};
+ghost use Rattle.plane.specs.declared.segment.SegBad.{SegBad};
+
+use crate::Point;
+use crate::order::{is_before, is_level, is_plumb, is_same_point};
+use crate::sides::{is_along, is_on_line};
+use crate::ways::Way;
+use qroot2::Dir;
+use std::marker::Model;
+
+/// A segment: two points, the lesser and the greater, that one of the sixteen directions joins.
+/// Segments are ordered by their lesser ends, and then by their greater ones.
+#[derive(Clone, Copy, Debug, PartialEq, Eq, PartialOrd, Ord, Hash)]
+pub struct Seg {
+    p: Point,
+    q: Point,
+}
+
+impl Model for Seg {
+    ghost use Rattle.exact.specs.Plane.{ExactSegment};
+    ghost use Rattle.plane.specs.Segments.{IsHeld};
+
+    ghost Value = { ExactSegment };
+
+    ghost view = { λ s. record { p = s.p; q = s.q } };
+
+    ghost invariant = { λ s. IsHeld (record { p = s.p; q = s.q }) };
+
+    ghost inverse = { λ v. record { p = v.p; q = v.q } };
+}
+
+/// Why two points are not the ends of a segment.
+#[derive(Clone, Copy, Debug, PartialEq, Eq)]
+pub enum SegBad {
+    /// They are one point.
+    SamePoint = 1,
+    /// They are two points, and none of the sixteen directions leads from one to the other.
+    NotDirection = 2,
+}
+
+impl Seg {
+    /// The segment between two points, given in either order.
+    pub fn new(p: Point, q: Point) -> Result<Seg, SegBad>
+        ensures ok { IfOk result (λ s. IsSegment s × HasEnds s p q) }
+        ensures same_point { (result ≡ Err SegBad.SamePoint) ↔ (p ≡ q) }
+        ensures not_direction { (result ≡ Err SegBad.NotDirection) ↔ ((p ≢ q) × ((s : ExactSegment) → HasEnds s p q → ¬ IsSegment s)) }
+    {
+        if is_same_point(&p, &q) {
+            return Err(SegBad::SamePoint);
+        }
+        if is_before(&p, &q) {
+            in_order(p, q)
+        } else {
+            in_order(q, p)
+        }
+    }
+
+    /// The lesser end.
+    pub fn p(&self) -> Point
+        ensures value { result ≡ self.now.p }
+        ensures canonical { IsPointCanonical result }
+        ensures segment { IsSegment self.now }
+    {
+        self.p
+    }
+
+    /// The greater end.
+    pub fn q(&self) -> Point
+        ensures value { result ≡ self.now.q }
+        ensures canonical { IsPointCanonical result }
+        ensures segment { IsSegment self.now }
+    {
+        self.q
+    }
+
+    /// The direction from the lesser end to the greater one.
+    pub fn dir(&self) -> Dir
+        ensures leads { DirOf self.now.p self.now.q result }
+        ensures small { result < 16 }
+        ensures segment { IsSegment self.now }
+        ensures only { (k : ℕ) → k < 16 → DirOf self.now.p self.now.q k → k ≡ result }
+    {
+        direction(&self.p, &self.q).unwrap()
+    }
+}
+
+/// Whether a point lies on a segment, at an end or between its ends.
+pub fn on(seg: &Seg, point: &Point) -> bool
+    ensures { IsTrue result ↔ OnSeg point.now seg.now }
+{
+    is_between(seg, point) && is_on_line(&seg.p(), seg.dir(), point)
+}
+
+/// Whether a point is not before the lesser end and not after the greater one.
+pub(crate) fn is_between(seg: &Seg, point: &Point) -> bool
+    ensures { IsTrue result ↔ ((¬ Before point.now seg.now.p) × (¬ Before seg.now.q point.now)) }
+{
+    !is_before(point, &seg.p()) && !is_before(&seg.q(), point)
+}
+
+/// The segment from one point to a later one.
+pub(crate) fn joined(p: Point, q: Point) -> Seg
+    requires { let s : ExactSegment = record { p = p; q = q } in IsSegment s }
+    ensures { result ≡ record { p = p; q = q } }
+{
+    let _p = (p.x.d(), p.y.d());
+    let _q = (q.x.d(), q.y.d());
+    Seg { p, q }
+}
+
+/// The segment from one point to a later one, if a direction leads there.
+fn in_order(p: Point, q: Point) -> Result<Seg, SegBad>
+    requires { Before p q }
+    ensures ok { IfOk result (λ s. IsSegment s × (s ≡ record { p = p; q = q })) }
+    ensures not_direction { (result ≡ Err SegBad.NotDirection) ↔ (let s : ExactSegment = record { p = p; q = q } in ¬ IsSegment s) }
+    ensures not_same { result ≢ Err SegBad.SamePoint }
+{
+    match direction(&p, &q) {
+        Some(_) => Ok(joined(p, q)),
+        None => Err(SegBad::NotDirection),
+    }
+}
+
+/// The direction from one point to a later one, or None where none of the sixteen leads there.
+fn direction(from: &Point, to: &Point) -> Option<Dir>
+    requires { Before from.now to.now }
+    ensures some { IfSome result (λ k. (k < 16) × DirOf from.now to.now k) }
+    ensures none { IsNone result → (k : ℕ) → k < 16 → ¬ DirOf from.now to.now k }
+{
+    if is_level(from, to) {
+        Dir::new(0)
+    } else if is_plumb(from, to) {
+        Dir::new(4)
+    } else {
+        slanted(&Way::new(from, to))
+    }
+}
+
+/// The direction, between 13 and 20 counted past 16, along whose lines a way leads, if there is one.
+fn slanted(way: &Way) -> Option<Dir>
+    requires x { size (root way.now.x) ≤ 2 ^ 110 }
+    requires y { size (root way.now.y) ≤ 2 ^ 110 }
+    ensures some { IfSome result (λ k. IsAhead k × IsAlong k (root way.now.x) (root way.now.y)) }
+    ensures none { IsNone result → (k : ℕ) → IsAhead k → ¬ IsAlong k (root way.now.x) (root way.now.y) }
+{
+    for n in 13..21 {
+        let dir = numbered(n);
+        if is_along(dir, way) {
+            return Some(dir);
+        }
+    }
+    None
+}
+
+/// The direction of a number of units, also past 16.
+fn numbered(n: u8) -> Dir
+    ensures { result ≡ n % 16 }
+{
+    Dir::default().turn(n)
+}
