@@ -1,0 +1,108 @@
+-- A native text is that of one pattern, and other bytes are refused in one way.
+use Rattle.std.proofs.Common.{◌≡◌, ◌≢◌, ℕ, List, [], ◌∷◌, ◌++◌, length, get_or, drop, refl, sym, ap, ◌∙◌, ◌⊎◌, inl, inr, arith, append_assoc, append-nil}
+use Rattle.std.specs.Prelude.{All}
+use Rattle.std.proofs.lemmas.List.{append_cancel_left}
+use Rattle.std.proofs.lemmas.List.Elements.{All-head, All-tail}
+use Rattle.exact.specs.Number.{ExactNumber}
+use Rattle.exact.specs.Plane.{ExactPoint}
+use Rattle.qroot2.specs.Text.{number_text}
+use Rattle.qroot2.proofs.OneText.{text_injective}
+use Rattle.plane.specs.PointText.{point_text}
+use Rattle.sheet.specs.Pattern.{ExactCrease, IsPattern, IsKey}
+use Rattle.sheet.specs.declared.Colour.{Colour}
+use Rattle.sheet.specs.declared.Colour.TheVariants as colour
+use Rattle.pattern.specs.NativeText.{letter, line_text, lines_text, header, pattern_text}
+use Rattle.pattern.specs.NativeLines.{body_text}
+use Rattle.pattern.specs.NativeReading.{IsPointSpelled}
+use Rattle.pattern.proofs.Splits.{one_split}
+use Rattle.pattern.proofs.NumberBytes.{number_unmarked}
+use Rattle.pattern.proofs.LineText.{point_unmarked, spelled_point}
+use Rattle.pattern.proofs.NativeSteps.{body_line, body_unmarked, ends}
+
+letter_of_one : (c d : Colour) → letter c ≡ letter d → c ≡ d
+letter_of_one colour.M colour.M e = refl
+letter_of_one colour.M colour.V e = absurd (omega (arith, e))
+letter_of_one colour.M colour.A e = absurd (omega (arith, e))
+letter_of_one colour.V colour.M e = absurd (omega (arith, e))
+letter_of_one colour.V colour.V e = refl
+letter_of_one colour.V colour.A e = absurd (omega (arith, e))
+letter_of_one colour.A colour.M e = absurd (omega (arith, e))
+letter_of_one colour.A colour.V e = absurd (omega (arith, e))
+letter_of_one colour.A colour.A e = refl
+
+point_of_one : (p u : ExactPoint) → IsPointSpelled p → IsPointSpelled u → point_text p ≡ point_text u → p ≡ u
+point_of_one p u s t e = made p.x u.x p.y u.y (text_injective p.x u.x s.x.some t.x.some halves.0) (text_injective p.y u.y s.y.some t.y.some halves.1)
+  where
+    halves : (number_text p.x ≡ number_text u.x) × (number_text p.y ≡ number_text u.y)
+    halves = one_split 44 (number_text p.x) (number_text p.y) (number_text u.x) (number_text u.y) (number_unmarked p.x 44 (inr (inr refl))) (number_unmarked u.x 44 (inr (inr refl))) e
+
+    made : (x x' y y' : ExactNumber) → x ≡ x' → y ≡ y' → (let z : ExactPoint = record { x = x; y = y } in z) ≡ record { x = x'; y = y' }
+    made x x' y y' f g = cc
+
+-- two lines at the front of one list
+pub record OneLine (c d : Colour) (p q u v : ExactPoint) (after behind : List ℕ) : Type 0 where
+  pub colour : c ≡ d
+  pub from : p ≡ u
+  pub to : q ≡ v
+  pub rest : after ≡ behind
+
+-- the line at the front of the bytes is that of one colour and of two ends
+pub one_line : (c d : Colour) (p q u v : ExactPoint) (after behind : List ℕ) → IsPointSpelled p → IsPointSpelled q → IsPointSpelled u → IsPointSpelled v → line_text c p q ++ after ≡ line_text d u v ++ behind → OneLine c d p q u v after behind
+one_line c d p q u v after behind sp sq su sv e =
+    let bodies = one_split 10 (body_text c p q) after (body_text d u v) behind (body_unmarked c p q) (body_unmarked d u v) (sym (body_line c p q after) ∙ e ∙ body_line d u v behind) in
+    let points = one_split 32 (point_text p) (point_text q) (point_text u) (point_text v) (point_unmarked p 32 (inr (inl refl)) (λ h. omega (arith, h))) (point_unmarked u 32 (inr (inl refl)) (λ h. omega (arith, h))) (ap (drop 2) bodies.0) in
+    record {
+      colour = letter_of_one c d (ap (λ t. get_or t 0 0) bodies.0);
+      from = point_of_one p u sp su points.0;
+      to = point_of_one q v sq sv points.1;
+      rest = bodies.1;
+    }
+
+abbrev pub text_of : ExactCrease → List ℕ
+text_of f = line_text f.colour f.seg.p f.seg.q
+
+one_crease : (f g : ExactCrease) (after behind : List ℕ) → IsKey f.seg → IsKey g.seg → text_of f ++ after ≡ text_of g ++ behind → (f ≡ g) × (after ≡ behind)
+one_crease f g after behind k l e =
+    let line = one_line f.colour g.colour f.seg.p f.seg.q g.seg.p g.seg.q after behind (spelled_point f.seg.p k.from) (spelled_point f.seg.q k.to) (spelled_point g.seg.p l.from) (spelled_point g.seg.q l.to) e in
+    (made f.colour g.colour f.seg.p g.seg.p f.seg.q g.seg.q line.colour line.from line.to, line.rest)
+  where
+    made : (c d : Colour) (p u q v : ExactPoint) → c ≡ d → p ≡ u → q ≡ v → (let x : ExactCrease = record { seg = ends p q; colour = c } in x) ≡ record { seg = ends u v; colour = d }
+    made c d p u q v e f g = λ i. record { seg = record { p = f i; q = g i }; colour = e i }
+
+-- the creases of the one text are the first of the other's
+pub record IsBegun (good others : List ExactCrease) (rest behind : List ℕ) : Type 0 where
+  pub tail : List ExactCrease
+  pub more : others ≡ good ++ tail
+  pub left : rest ≡ lines_text tail ++ behind
+
+abbrev pub AreKeys : List ExactCrease → Type 0
+AreKeys creases = All (λ f. IsKey f.seg) creases
+
+-- of two lists of lines at the front of one list the one begins with the other
+pub begun : (good others : List ExactCrease) (rest behind : List ℕ) → AreKeys good → AreKeys others → lines_text good ++ rest ≡ lines_text others ++ behind → IsBegun good others rest behind ⊎ IsBegun others good behind rest
+begun [] others rest behind k l e = inl (record { tail = others; more = refl; left = e })
+begun (f ∷ good) [] rest behind k l e = inr (record { tail = f ∷ good; more = refl; left = sym e })
+begun (f ∷ good) (g ∷ others) rest behind k l e =
+    let first = one_crease f g (lines_text good ++ rest) (lines_text others ++ behind) (All-head (λ (h : ExactCrease). IsKey h.seg) f good k) (All-head (λ (h : ExactCrease). IsKey h.seg) g others l)
+    (sym (append_assoc (text_of f) (lines_text good) rest) ∙ e ∙ append_assoc (text_of g) (lines_text others) behind) in
+    elim (begun good others rest behind (All-tail (λ (h : ExactCrease). IsKey h.seg) f good k) (All-tail (λ (h : ExactCrease). IsKey h.seg) g others l) first.1) [
+      | inl b ↦ inl (record { tail = b.tail; more = ap (λ t. g ∷ t) b.more ∙ ap (λ x. x ∷ (good ++ b.tail)) (sym first.0); left = b.left })
+      | inr b ↦ inr (record { tail = b.tail; more = ap (λ t. f ∷ t) b.more ∙ ap (λ x. x ∷ (others ++ b.tail)) first.0; left = b.left })
+    ]
+
+no_line_left : (f : ExactCrease) (creases : List ExactCrease) (rest : List ℕ) → lines_text (f ∷ creases) ++ rest ≢ []
+no_line_left f creases rest e = omega (arith, ap length e)
+
+-- what is left of a whole text is nothing
+nothing_left : (good others : List ExactCrease) → IsBegun good others [] [] → good ≡ others
+nothing_left good others b = by b.tail b.more b.left
+  where
+    by : (tail : List ExactCrease) → others ≡ good ++ tail → [] ≡ lines_text tail ++ [] → good ≡ others
+    by [] m l = sym (m ∙ append-nil good)
+    by (f ∷ tail) m l = absurd (no_line_left f tail [] (sym l))
+
+pub one_pattern : (creases others : List ExactCrease) → IsPattern creases → IsPattern others → pattern_text creases ≡ pattern_text others → creases ≡ others
+one_pattern creases others p q e = elim (begun creases others [] [] p.keys q.keys (append-nil (lines_text creases) ∙ append_cancel_left header (lines_text creases) (lines_text others) e ∙ sym (append-nil (lines_text others)))) [
+  | inl b ↦ nothing_left creases others b
+  | inr b ↦ sym (nothing_left others creases b)
+]

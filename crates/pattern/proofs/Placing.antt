@@ -1,0 +1,43 @@
+-- What the tests of a line say together.
+use Rattle.std.proofs.Common.{◌≡◌, Bool, true, false, sym, ◌∙◌, inl, inr, subst, refl, IsTrue}
+use Rattle.std.specs.Prelude.{◌↔◌, Err, Ok, Result, Option, Some, None, IfSome, IsNone, IfOk}
+use Rattle.std.specs.Result.{result_ok}
+use Rattle.std.proofs.lemmas.Bool.{false≢true}
+use Rattle.exact.specs.Plane.{ExactPoint, ExactSegment, IsSegment, Before}
+use Rattle.geometry.proofs.PointOrder.{before_not_back, before_not_itself}
+use Rattle.plane.specs.Segments.{HasEnds}
+use Rattle.plane.specs.declared.segment.SegBad.{SegBad}
+use Rattle.plane.specs.declared.segment.SegBad.TheVariants as bad
+
+pub refuted : {P : Type 0} (b : Bool) → b ≡ false → IsTrue b ↔ P → ¬ P
+refuted b e h p = false≢true (sym e ∙ h.1 p)
+
+pub shown : {P : Type 0} (b : Bool) → b ≡ true → IsTrue b ↔ P → P
+shown b e h = h.0 e
+
+pair : (s : ExactSegment) (p q : ExactPoint) → s.p ≡ p → s.q ≡ q → s ≡ record { p = p; q = q }
+pair s p q e f = λ i. record { p = e i; q = f i }
+
+-- a segment with two ends that are in order begins at the first
+pub ends_in_order : (s : ExactSegment) (p q : ExactPoint) → IsSegment s → HasEnds s p q → Before p q → s ≡ record { p = p; q = q }
+ends_in_order s p q h (inl e) b = pair s p q e.0 e.1
+ends_in_order s p q h (inr e) b = absurd (before_not_back p q b (subst (λ (x : ExactPoint). Before x p) e.0 (subst (λ (x : ExactPoint). Before s.p x) e.1 h.0)))
+
+pub no_segment : (r : Result ExactSegment SegBad) (p q : ExactPoint) → Before p q → (r ≡ Err bad.SamePoint → p ≡ q) → (r ≡ Err bad.NotDirection → (s : ExactSegment) → HasEnds s p q → ¬ IsSegment s) → result_ok r ≡ None → ¬ IsSegment (record { p = p; q = q })
+no_segment (Ok s) p q b f g e h = cc
+no_segment (Err bad.SamePoint) p q b f g e h = before_not_itself q (subst (λ (x : ExactPoint). Before x q) (f refl) b)
+no_segment (Err bad.NotDirection) p q b f g e h = g refl (record { p = p; q = q }) (inl (refl, refl)) h
+
+some_told : (r : Result ExactSegment SegBad) (p q : ExactPoint) → IfOk r (λ s. IsSegment s × HasEnds s p q) → IfSome (result_ok r) (λ s. Before p q → s ≡ record { p = p; q = q }) × IfSome (result_ok r) IsSegment
+some_told (Ok s) p q h = (λ b. ends_in_order s p q h.0 h.1 b, h.0)
+some_told (Err e) p q h = (tt, tt)
+
+pub segment_told : (o : Option ExactSegment) (r : Result ExactSegment SegBad) (p q : ExactPoint) → o ≡ result_ok r → IfOk r (λ s. IsSegment s × HasEnds s p q) → IfSome o (λ s. Before p q → s ≡ record { p = p; q = q }) × IfSome o IsSegment
+segment_told o r p q e h = subst (λ (x : Option ExactSegment). IfSome x (λ s. Before p q → s ≡ record { p = p; q = q }) × IfSome x IsSegment) (sym e) (some_told r p q h)
+
+pub is_none : (o : Option ExactSegment) → IsNone o → o ≡ None
+is_none None h = refl
+is_none (Some s) h = cc
+
+pub both_told : (P Q : Type 0) (a b : Bool) → IsTrue a ↔ P → a ≡ true → IsTrue b ↔ Q → IsTrue b ↔ (P × Q)
+both_told P Q a b h e k = (λ t. (h.0 e, k.0 t), λ x. k.1 x.1)

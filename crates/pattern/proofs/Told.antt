@@ -1,0 +1,30 @@
+-- What a loop of tests tells of a list.
+use Rattle.std.proofs.Common.{◌≡◌, ℕ, ◌+◌, ◌<◌, ◌≤◌, Bool, true, false, List, length, get_or, take, refl, sym, subst, ◌∙◌}
+use Rattle.std.specs.Prelude.{◌↔◌, IsTrue, All, not}
+use Rattle.std.proofs.lemmas.List.{take_all}
+use Rattle.std.proofs.lemmas.List.Elements.{All-more}
+
+pub all_next : {X : Type 0} (P : X → Type 0) (xs : List X) (i : ℕ) (x : X) → i < length xs → x ≡ get_or xs i x → All P (take i xs) → P x → All P (take (i + 1) xs)
+all_next P xs i x l e h p = All-more P xs i x l h (subst P e p)
+
+pub all_tested : {X : Type 0} (P : X → Type 0) (xs : List X) (i : ℕ) → length xs ≤ i → All P (take i xs) → All P xs
+all_tested P xs i l h = subst (All P) (take_all i xs l) h
+
+pub one_fails : {X : Type 0} (P : X → Type 0) (xs : List X) (i : ℕ) (x : X) → i < length xs → x ≡ get_or xs i x → (¬ P x) → ¬ All P xs
+one_fails P xs i x l e n h = n (subst P (sym e) (h i x l))
+
+pub refuted : (b : Bool) (P : Type 0) → b ≡ false → IsTrue b ↔ P → ¬ P
+refuted b P e i p = (let k = i.1 p in cc)
+
+pub answers_no : (P : Type 0) → (¬ P) → IsTrue false ↔ P
+answers_no P n = (λ h. cc, λ p. absurd (n p))
+
+pub answers_yes : (P : Type 0) → P → IsTrue true ↔ P
+answers_yes P p = (λ h. p, λ q. refl)
+
+pub answers_other : (b : Bool) (P Q : Type 0) → IsTrue b ↔ P → ((¬ P) → Q) → (Q → ¬ P) → IsTrue (not b) ↔ Q
+answers_other true P Q i f g = (λ h. cc, λ q. absurd (g q (i.0 refl)))
+answers_other false P Q i f g = (λ h. f (λ p. (let k = i.1 p in cc)), λ q. refl)
+
+pub answers_not : (b : Bool) (P : Type 0) → b ≡ false → (¬ P) → IsTrue b ↔ P
+answers_not b P e n = (λ h. absurd (let k = sym e ∙ h in cc), λ p. absurd (n p))

@@ -1,0 +1,10 @@
+pub mod Creases
+pub mod NativeText
+pub mod NativeReading
+pub mod NativeLines
+pub mod Lasts
+pub mod NativeEnds
+pub mod NativeReader
+pub mod Splitting
+pub mod Deltas
+pub mod Fitting

@@ -1,0 +1,20 @@
+//! Whether two segments overlap, and whether creases that come overlap others.
+ghost use Rattle.std.specs.Prelude.{IsTrue, ◌↔◌};
+ghost use Rattle.exact.specs.Plane.{Overlap};
+
+use plane::{Seg, SupportLine, is_before};
+
+/// Whether two segments have at most one common point.
+pub(crate) fn are_apart(s: &Seg, t: &Seg) -> bool
+    ensures { IsTrue result ↔ (¬ Overlap s.now t.now) }
+{
+    let from = s.p();
+    let other_from = t.p();
+    if !SupportLine::of(s).cmp(&SupportLine::of(t)).is_eq() {
+        return true;
+    }
+    if !is_before(&from, &t.q()) {
+        return true;
+    }
+    !is_before(&other_from, &s.q())
+}
