@@ -1,0 +1,16 @@
+pub mod Order
+pub mod PartEnds
+pub mod Overlapping
+pub mod OneList
+pub mod OneAnswer
+pub mod RayPoints
+pub mod OneDrawing
+pub mod OneEar
+pub mod OneEdit
+pub mod StillApart
+pub mod StillKeys
+pub mod StillPatterns
+pub mod RaySides
+pub mod Halfway
+pub mod Running
+pub mod RunningBack

@@ -1,0 +1,136 @@
+-- Each edit but the rabbit ear, step by step, has one answer.
+use Rattle.std.proofs.Common.{◌≡◌, ℕ, ◌+◌, ◌/◌, ◌%◌, ◌<◌, List, [], ◌∷◌, sym, ap, subst, ◌∙◌, inl, inr, arith}
+use Rattle.std.specs.Prelude.{Result, Ok}
+use Rattle.exact.specs.Plane.{ExactPoint, ExactSegment, SamePoint, Before}
+use Rattle.sheet.specs.Pattern.{ExactCrease}
+use Rattle.sheet.specs.declared.Colour.{Colour}
+use Rattle.geometry.proofs.PointOrder.{before_not_back, same_before, before_same}
+use Rattle.qroot2.specs.Dir.{IsMiddle}
+use Rattle.plane.proofs.Imaged.{image_only}
+use Rattle.plane.proofs.Orders.{point_unique}
+use Rattle.edits.specs.Rules.{Gives, Then, ForEach}
+use Rattle.edits.specs.CreaseSet.{AreCreases}
+use Rattle.edits.specs.Drawn.{IsLeft, StandsAfter, Counted, DrawnOne, DrawnInTurn}
+use Rattle.edits.specs.Ends.{Joins, EndsOf}
+use Rattle.edits.specs.Erase.{Erased}
+use Rattle.edits.specs.Recolour.{StandsRecoloured, Recoloured}
+use Rattle.edits.specs.Extend.{IsFirstMet, IsExtension, Extension}
+use Rattle.edits.specs.Bisect.{Bisector}
+use Rattle.edits.specs.Mirror.{AreConcerned, IsCreaseImage, ImageOf, DrawnImages, Mirrored}
+use Rattle.edits.specs.Lines.{LineOf, DrawnLines}
+use Rattle.edits.specs.declared.refusal.EditBad.{EditBad}
+use Rattle.edits.specs.declared.refusal.EditBad.TheVariants as bad
+use Rattle.edits.proofs.OneAnswer.{HasOneAnswer, gives_one, unless_one, then_one, for_each_one}
+use Rattle.edits.proofs.OneList.{creases_are_one}
+use Rattle.edits.proofs.RayPoints.{ray_ordered}
+
+pub equal_one : {A : Type 0} (a : A) → HasOneAnswer (Gives (λ b. b ≡ a))
+equal_one a = gives_one (λ b. b ≡ a) (λ b c p q. p ∙ sym q)
+
+pub counted_one : (creases : List ExactCrease) → HasOneAnswer (Counted creases)
+counted_one creases = unless_one _ _ _ (equal_one creases)
+
+pub set_one : (Stands : ExactCrease → Type 0) → HasOneAnswer (Then (Gives (AreCreases Stands)) Counted)
+set_one Stands = then_one (Gives (AreCreases Stands)) Counted (gives_one (AreCreases Stands) (creases_are_one Stands)) (λ after _. counted_one after)
+
+pub drawn_one : (d : ExactCrease) (creases : List ExactCrease) → HasOneAnswer (DrawnOne d creases)
+drawn_one d creases = set_one (StandsAfter creases d)
+
+pub answer_is : {A : Type 0} (a : Result A EditBad) → HasOneAnswer (λ answer. answer ≡ a)
+unfolding HasOneAnswer
+answer_is a x y u v = u ∙ sym v
+
+pub in_turn_one : (drawings creases : List ExactCrease) → HasOneAnswer (DrawnInTurn drawings creases)
+in_turn_one [] creases = answer_is (Ok creases)
+in_turn_one (d ∷ rest) creases = then_one (DrawnOne d creases) (λ after. DrawnInTurn rest after) (drawn_one d creases) (λ after _. in_turn_one rest after)
+
+segments_equal : (a b : ExactSegment) → a.p ≡ b.p → a.q ≡ b.q → a ≡ b
+segments_equal a b f g = λ i. record { p = f i; q = g i }
+
+pub joins_one : (p q : ExactPoint) (a b : ExactSegment) → Joins a p q → Joins b p q → a ≡ b
+joins_one p q a b h k = elim h.1 [
+  | inl e ↦ elim k.1 [
+    | inl f ↦ segments_equal a b (e.0 ∙ sym f.0) (e.1 ∙ sym f.1)
+    | inr f ↦ absurd (crossed a b h.0.0 k.0.0 (e.0 ∙ sym f.1) (e.1 ∙ sym f.0))
+  ]
+  | inr e ↦ elim k.1 [
+    | inl f ↦ absurd (crossed a b h.0.0 k.0.0 (e.0 ∙ sym f.1) (e.1 ∙ sym f.0))
+    | inr f ↦ segments_equal a b (e.0 ∙ sym f.0) (e.1 ∙ sym f.1)
+  ]
+]
+  where
+    crossed : (a b : ExactSegment) → Before a.p a.q → Before b.p b.q → a.p ≡ b.q → a.q ≡ b.p → ⊥
+    crossed a b x y e f = before_not_back b.p b.q y (subst (λ z. Before b.q z) f (subst (λ z. Before z a.q) e x))
+
+pub ends_one : (p q : ExactPoint) → HasOneAnswer (EndsOf p q)
+ends_one p q = unless_one _ _ _ (unless_one _ _ _ (unless_one _ _ _ (unless_one _ _ _ (gives_one (λ s. Joins s p q) (joins_one p q)))))
+
+pub erased_one : (creases : List ExactCrease) (s : ExactSegment) → HasOneAnswer (Erased creases s)
+erased_one creases s = unless_one _ _ _ (set_one (IsLeft creases s))
+
+pub recoloured_one : (creases : List ExactCrease) (s : ExactSegment) (c : Colour) → HasOneAnswer (Recoloured creases s c)
+recoloured_one creases s c = unless_one _ _ _ (set_one (StandsRecoloured creases s c))
+
+-- the first point that a ray meets
+first_one : (creases : List ExactCrease) (start : ExactPoint) (k : ℕ) (d e : ExactPoint) → IsFirstMet creases start k d → IsFirstMet creases start k e → SamePoint d e
+first_one creases start k d e f g = elim (ray_ordered start d e k f.ray g.ray) [
+  | inl after ↦ absurd (g.first d f.ray after f.met)
+  | inr other ↦ elim other [ inl same ↦ same | inr after ↦ absurd (f.first e g.ray after g.met) ]
+]
+
+pub extension_is_one : (creases : List ExactCrease) (start : ExactPoint) (k : ℕ) (a b : ExactSegment) → IsExtension creases start k a → IsExtension creases start k b → a ≡ b
+extension_is_one creases start k a b h l =
+    let e : h.0 ≡ l.0 = point_unique h.0 l.0 h.2 l.2 (first_one creases start k h.0 l.0 h.1 l.1) in
+    joins_one start l.0 a b (subst (λ z. Joins a start z) e h.3) l.3
+
+pub extension_one : (creases : List ExactCrease) (start : ExactPoint) (k : ℕ) → HasOneAnswer (Extension creases start k)
+extension_one creases start k = unless_one _ _ _ (unless_one _ _ _ (unless_one _ _ _ (unless_one _ _ _ (gives_one (IsExtension creases start k) (extension_is_one creases start k)))))
+
+pub middle_one : (i j k m : ℕ) → IsMiddle i j k → IsMiddle i j m → k ≡ m
+middle_one i j k m h l =
+    let n : h.0 ≡ l.0 = omega (arith, h.1.some, h.1.small, h.1.leads, l.1.some, l.1.small, l.1.leads) in
+    h.3 ∙ ap (λ z. (i + z / 2) % 16) n ∙ sym l.3
+
+pub bisector_one : (creases : List ExactCrease) (start : ExactPoint) (i j : ℕ) → HasOneAnswer (Bisector creases start i j)
+unfolding HasOneAnswer
+bisector_one creases start i j = unless_one _ _ _ (unless_one _ _ _ (unless_one _ _ _ (unless_one _ _ _ halved)))
+  where
+    halved : HasOneAnswer (λ answer. (k : ℕ) × IsMiddle i j k × Extension creases start k answer)
+    halved x y u v = extension_one creases start v.0 x y (subst (λ z. Extension creases start z x) (middle_one i j u.0 v.0 u.1 v.1) u.2) v.2
+
+-- the image of a crease
+pub image_is_one : (start : ExactPoint) (k : ℕ) → k < 16 → (f a b : ExactCrease) → IsCreaseImage start k f a → IsCreaseImage start k f b → a ≡ b
+image_is_one start k small f a b h l = together (elim h.image.1 [
+  | inl x ↦ elim l.image.1 [
+    | inl y ↦ (image_only k start f.seg.p a.seg.p b.seg.p small x.0 y.0, image_only k start f.seg.q a.seg.q b.seg.q small x.1 y.1)
+    | inr y ↦ absurd (crossed h.image.0.0 l.image.0.0 (image_only k start f.seg.p a.seg.p b.seg.q small x.0 y.0) (image_only k start f.seg.q a.seg.q b.seg.p small x.1 y.1))
+  ]
+  | inr x ↦ elim l.image.1 [
+    | inl y ↦ absurd (crossed h.image.0.0 l.image.0.0 (image_only k start f.seg.q a.seg.p b.seg.q small x.1 y.1) (image_only k start f.seg.p a.seg.q b.seg.p small x.0 y.0))
+    | inr y ↦ (image_only k start f.seg.q a.seg.p b.seg.p small x.1 y.1, image_only k start f.seg.p a.seg.q b.seg.q small x.0 y.0)
+  ]
+])
+  where
+    crossed : Before a.seg.p a.seg.q → Before b.seg.p b.seg.q → SamePoint a.seg.p b.seg.q → SamePoint a.seg.q b.seg.p → ⊥
+    crossed x y e g = before_not_back b.seg.p b.seg.q y (before_same b.seg.q a.seg.q b.seg.p g (same_before a.seg.p b.seg.q a.seg.q e x))
+
+    together : SamePoint a.seg.p b.seg.p × SamePoint a.seg.q b.seg.q → a ≡ b
+    together s =
+        let from = point_unique a.seg.p b.seg.p h.canonical.0 l.canonical.0 s.0 in
+        let to = point_unique a.seg.q b.seg.q h.canonical.1 l.canonical.1 s.1 in
+        let colour = h.colour ∙ sym l.colour in
+        λ i. record { seg = record { p = from i; q = to i }; colour = colour i }
+
+pub image_one : (start : ExactPoint) (k : ℕ) → k < 16 → (f : ExactCrease) → HasOneAnswer (ImageOf start k f)
+image_one start k small f = unless_one _ _ _ (unless_one _ _ _ (unless_one _ _ _ (gives_one (IsCreaseImage start k f) (image_is_one start k small f))))
+
+pub mirrored_one : (creases : List ExactCrease) (start : ExactPoint) (k : ℕ) → k < 16 → HasOneAnswer (Mirrored creases start k)
+mirrored_one creases start k small = unless_one _ _ _ (
+    then_one (Gives (AreConcerned creases start k)) (DrawnImages creases start k) (gives_one (AreConcerned creases start k) (creases_are_one _)) (λ concerned _.
+    unless_one (concerned ≡ []) bad.NoCrease _ (then_one (ForEach (ImageOf start k) concerned) (λ images. DrawnInTurn images creases) (for_each_one (ImageOf start k) (image_one start k small) concerned) (λ images _. in_turn_one images creases))))
+
+line_one : (f : ExactCrease) → HasOneAnswer (LineOf f)
+line_one f = unless_one _ _ _ (unless_one _ _ _ (equal_one f))
+
+pub lines_one : (given creases : List ExactCrease) → HasOneAnswer (DrawnLines given creases)
+lines_one given creases = then_one (ForEach LineOf given) (λ same. DrawnInTurn same creases) (for_each_one LineOf line_one given) (λ same _. in_turn_one same creases)

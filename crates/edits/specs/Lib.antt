@@ -1,0 +1,16 @@
+pub mod Rules
+pub mod Parts
+pub mod CreaseSet
+pub mod Drawn
+pub mod Ends
+pub mod Erase
+pub mod Recolour
+pub mod Flip
+pub mod Rays
+pub mod Extend
+pub mod Bisect
+pub mod Mirror
+pub mod Triangles
+pub mod RabbitEar
+pub mod Lines
+pub mod EditOf

@@ -1,0 +1,35 @@
+-- Rays from a point, and the creases and sides that they meet.
+use Rattle.std.specs.Prelude.{◌≡◌, ℕ, ◌⊎◌, List, Contains}
+use Rattle.exact.specs.Plane.{ExactPoint, ExactSegment, DirOf, SamePoint, OnSeg}
+use Rattle.sheet.specs.Sheet.{sides}
+use Rattle.sheet.specs.Pattern.{ExactCrease}
+
+-- r is on the ray from the point in direction k: it is the point and a positive multiple of the direction's vector. The point itself is not on the ray.
+abbrev pub OnRay : ExactPoint → ℕ → ExactPoint → Type 0
+OnRay at k r = DirOf at r k
+
+-- all points of the ray that are close to its start are such: all that do not come after some point of it
+abbrev pub NearStart : ExactPoint → ℕ → (ExactPoint → Type 0) → Type 0
+NearStart at k IsSuch = (e : ExactPoint) × OnRay at k e × ((r : ExactPoint) → OnRay at k r → (¬ OnRay e k r) → IsSuch r)
+
+-- s runs along the ray from its start on
+abbrev pub RunsAlong : ExactPoint → ℕ → ExactSegment → Type 0
+RunsAlong at k s = NearStart at k (λ r. OnSeg r s)
+
+-- v is on the ray and on s, and no other point is
+pub record MeetsRay (at : ExactPoint) (k : ℕ) (s : ExactSegment) (v : ExactPoint) : Type 0 where
+  pub ray : OnRay at k v
+  pub here : OnSeg v s
+  pub only : (u : ExactPoint) → OnRay at k u → OnSeg u s → SamePoint u v
+
+-- s is that of a crease
+abbrev pub IsCrease : List ExactCrease → ExactSegment → Type 0
+IsCrease creases s = (f : ExactCrease) × Contains creases f × (f.seg ≡ s)
+
+-- s is a side of the sheet or that of a crease
+abbrev pub IsSideOrCrease : List ExactCrease → ExactSegment → Type 0
+IsSideOrCrease creases s = Contains sides s ⊎ IsCrease creases s
+
+-- r is on a side or a crease
+abbrev pub OnSideOrCrease : List ExactCrease → ExactPoint → Type 0
+OnSideOrCrease creases r = (s : ExactSegment) × IsSideOrCrease creases s × OnSeg r s
