@@ -1,0 +1,16 @@
+pub mod PatternLines
+pub mod Cutting
+pub mod Range
+mod Extents
+mod Crossings
+mod Points
+mod SideRange
+mod LinePlaces
+mod SheetLines
+mod Refusal
+mod Whole
+mod ChainAmong
+mod Gathered
+mod Steps
+mod ChainEdges
+pub mod OneAnswer

@@ -1,0 +1,30 @@
+-- The order of the program's points, which are in lowest terms, is that of their places.
+use Rattle.std.proofs.Common.{◌≡◌, ℕ, ◌<◌, List, length, get_or, refl, ◌⊎◌, inl, inr, arith}
+use Rattle.std.specs.Prelude.{Contains, All, AllPairs}
+use Rattle.std.specs.declared.cmp.Ordering.{Ordering}
+use Rattle.std.specs.declared.cmp.Ordering.TheVariants as o
+use Rattle.std.specs.Ordering.{ordering_then}
+use Rattle.std.proofs.lemmas.List.Elements.{All-get_or, All-weaker, All-contains_itself}
+use Rattle.exact.specs.Plane.{ExactPoint, SamePoint, Before, IsPointCanonical, IsPointRepresentable}
+use Rattle.chains.specs.Chains.{Ascends}
+use Rattle.plane.specs.Order.{point_cmp}
+use Rattle.plane.proofs.Orders.{point_less}
+
+pub first_less : (r s : Ordering) → ordering_then r s ≡ o.Less → (r ≡ o.Less) ⊎ ((r ≡ o.Equal) × (s ≡ o.Less))
+first_less o.Less s e = inl refl
+first_less o.Equal s e = inr (refl, e)
+first_less o.Greater s e = absurd (cc)
+
+-- a list that ascends as the program compares ascends
+pub ascends_before : (vs : List ExactPoint) → All IsPointCanonical vs → Ascends point_cmp vs → AllPairs Before vs
+ascends_before vs c up i j d h l = (point_less (get_or vs i d) (get_or vs j d) (All-get_or IsPointCanonical vs i d (lt_trans i j h l) c) (All-get_or IsPointCanonical vs j d l c)).0 (up i j d h l)
+  where
+    lt_trans : (i j : ℕ) → i < j → j < length vs → i < length vs
+    lt_trans i j h l = omega arith
+
+pub all_from : {X : Type 0} (P : X → Type 0) (xs : List X) → ((x : X) → Contains xs x → P x) → All P xs
+all_from P xs f = All-weaker (Contains xs) P f xs (All-contains_itself xs)
+
+-- a point that stands in the list by other numbers can be held
+pub same_held : (v w : ExactPoint) → SamePoint v w → IsPointCanonical w → IsPointRepresentable v
+same_held v w s c = ((w.x, s.x, c.0), (w.y, s.y, c.1))

@@ -1,0 +1,5 @@
+use Rattle.subdivide.proofs.Crossings.{AreTried}
+use Rattle.subdivide.proofs.chain.add_crossings.Given as goal
+
+abbrev pub invariant-loop-place : goal.invariant-loop-place
+invariant-loop-place l = AreTried l.seg l.lines l.place l.fn.points.items l.points.items

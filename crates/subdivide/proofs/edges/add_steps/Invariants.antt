@@ -1,0 +1,6 @@
+use Rattle.std.proofs.Common.{◌≤◌, max, length}
+use Rattle.subdivide.specs.Steps.{AreStepsOf}
+use Rattle.subdivide.proofs.edges.add_steps.Given as goal
+
+abbrev pub invariant-loop-i : goal.invariant-loop-i
+invariant-loop-i l = AreStepsOf l.vertices l.chain l.i l.kind l.fn.edges.items l.edges.items × (l.i ≤ max 1 (length l.chain))

@@ -1,0 +1,5 @@
+use Rattle.subdivide.proofs.OneAnswer.{one_answer}
+use Rattle.subdivide.proofs.laws.cut_is_one.Goals as goal
+
+pub returns : goal.returns
+returns c = one_answer

@@ -1,0 +1,19 @@
+//! A crease pattern cut at its crossings into vertices and edges.
+#![tactic(auto)]
+
+mod chain;
+mod cut;
+mod edge;
+mod edges;
+mod gather;
+mod laws;
+mod line;
+mod lines;
+mod sides;
+
+pub use cut::{Subdivision, scratch};
+pub use edge::{CutBad, Edge, EdgeKind};
+pub use laws::{chains_give_edges, chains_give_vertices, cut_is_one, patterns_give_lines};
+
+#[cfg(test)]
+mod tests;
