@@ -1,0 +1,44 @@
+//! The program: reads the words of its command line, does what they ask, and ends with a status.
+#![tactic(auto)]
+
+mod commands;
+mod laws;
+mod program;
+mod reading;
+mod reply;
+mod status;
+#[cfg(test)]
+mod tests;
+
+pub use laws::cut_text_is_one;
+use ports::{NoMemory, StdSink, StdSource};
+pub use program::run;
+pub use status::Status;
+use std::alloc::Global;
+use std::env;
+use std::io::ErrorKind;
+use std::process::ExitCode;
+
+fn main(rt: HostRuntime) -> ExitCode {
+    let alloc = rt.alloc();
+    let Ok(words) = words(&rt, alloc) else {
+        return ExitCode::from(Status::NoMemory.number());
+    };
+    let mut source = StdSource::new(&rt);
+    let mut sink = StdSink::new(&rt);
+    ExitCode::from(run(alloc, &words, &mut source, &mut sink).number())
+}
+
+/// The words after the program's name. Where one of them is not UTF-8 there are none here, and so
+/// no command's.
+fn words(rt: &HostRuntime, alloc: Global) -> Result<Vec<String>, NoMemory> {
+    match env::args(rt) {
+        Ok(given) => Ok(given.skip(1).collect(alloc)?),
+        Err(error) => {
+            if error.kind() == ErrorKind::OutOfMemory {
+                return Err(NoMemory);
+            }
+            Ok(Vec::new(alloc))
+        }
+    }
+}
