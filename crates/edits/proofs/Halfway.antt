@@ -2,11 +2,12 @@
 use Rattle.std.proofs.Common.{◌≡◌, ℕ, ◌*◌, max, [], ◌∷◌, refl, sym, ap, subst, ◌∙◌, arith}
 use Rattle.exact.specs.Number.{ExactNumber, Same, Less, Positive, den, sub, neg, mul as mul_exact}
 use Rattle.exact.specs.Plane.{ExactPoint, vector}
-use Rattle.geometry.specs.Root.{plus, times, minus, count, Above}
+use Rattle.geometry.specs.Root.{plus, times, count, Above}
 use Rattle.geometry.specs.Gap.{num, dn}
 use Rattle.geometry.proofs.Domain.{above_times}
 use Rattle.geometry.proofs.Solve.{at, one, add, mul, opp, solve}
 use Rattle.geometry.proofs.Gap.{dn_above, num_sub, dn_sub, num_same, less_num, above_num, count_product}
+use Rattle.geometry.proofs.Parts.{num_neg, dn_neg}
 use Rattle.edits.specs.Rays.{OnRay}
 use Rattle.edits.proofs.RayPoints.{comes_after}
 
@@ -28,14 +29,6 @@ half_less t h = (less_num (half t) t).1 (subst Above (sym (
     (add (mul (at 0) (mul (add one one) (at 1))) (opp (mul (at 0) (at 1)))) (mul (at 0) (at 1)) refl)))
     (above_times (num t) (dn t) h (dn_above t)))
 
-num_neg : (x : ExactNumber) → num (neg x) ≡ minus (num x)
-unfolding num minus
-num_neg x = refl
-
-dn_neg : (x : ExactNumber) → dn (neg x) ≡ dn x
-unfolding dn
-dn_neg x = refl
-
 -- what was added to a is the way from there
 added : (a n : ExactNumber) → Same (sub (sub a (neg n)) a) n
 added a n = num_same (sub (sub a (neg n)) a) n (
@@ -44,15 +37,23 @@ added a n = num_same (sub (sub a (neg n)) a) n (
     (mul (add (mul (add (mul (at 0) (at 3)) (opp (mul (opp (at 2)) (at 1)))) (at 1)) (opp (mul (at 0) (mul (at 1) (at 3))))) (at 3))
     (mul (at 2) (mul (mul (at 1) (at 3)) (at 1))) refl))
 
+-- the point that is t times the vector of a direction away from the start
+pub ahead : (start : ExactPoint) (k : ℕ) (t : ExactNumber) → ExactPoint
+ahead start k t = record { x = sub start.x (neg (mul_exact t (vector k).x)); y = sub start.y (neg (mul_exact t (vector k).y)) }
+
+pub ahead_on : (start : ExactPoint) (k : ℕ) (t : ExactNumber) → Positive t.a t.b → OnRay start k (ahead start k t)
+unfolding ahead
+ahead_on start k t h = (t, h, record { x = added start.x (mul_exact t (vector k).x); y = added start.y (mul_exact t (vector k).y) })
+
 halfway : (start : ExactPoint) (k : ℕ) (t : ExactNumber) → ExactPoint
-halfway start k t = record { x = sub start.x (neg (mul_exact (half t) (vector k).x)); y = sub start.y (neg (mul_exact (half t) (vector k).y)) }
+halfway start k t = ahead start k (half t)
 
 halfway_on : (start : ExactPoint) (k : ℕ) (t : ExactNumber) → Positive t.a t.b → OnRay start k (halfway start k t)
 unfolding half halfway
-halfway_on start k t h = (half t, h, record { x = added start.x (mul_exact (half t) (vector k).x); y = added start.y (mul_exact (half t) (vector k).y) })
+halfway_on start k t h = ahead_on start k (half t) h
 
 half_is : (start : ExactPoint) (k : ℕ) (t : ExactNumber) (h : Positive t.a t.b) → (halfway_on start k t h).0 ≡ half t
-unfolding halfway_on
+unfolding halfway_on ahead_on
 half_is start k t h = refl
 
 -- a point of the ray that the given one comes after

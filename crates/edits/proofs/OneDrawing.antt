@@ -8,7 +8,7 @@ use Rattle.geometry.proofs.PointOrder.{before_not_back, same_before, before_same
 use Rattle.qroot2.specs.Dir.{IsMiddle}
 use Rattle.plane.proofs.Imaged.{image_only}
 use Rattle.plane.proofs.Orders.{point_unique}
-use Rattle.edits.specs.Rules.{Gives, Then, ForEach}
+use Rattle.edits.specs.Rules.{Gives, Then}
 use Rattle.edits.specs.CreaseSet.{AreCreases}
 use Rattle.edits.specs.Drawn.{IsLeft, StandsAfter, Counted, DrawnOne, DrawnInTurn}
 use Rattle.edits.specs.Ends.{Joins, EndsOf}
@@ -16,8 +16,8 @@ use Rattle.edits.specs.Erase.{Erased}
 use Rattle.edits.specs.Recolour.{StandsRecoloured, Recoloured}
 use Rattle.edits.specs.Extend.{IsFirstMet, IsExtension, Extension}
 use Rattle.edits.specs.Bisect.{Bisector}
-use Rattle.edits.specs.Mirror.{AreConcerned, IsCreaseImage, ImageOf, DrawnImages, Mirrored}
-use Rattle.edits.specs.Lines.{LineOf, DrawnLines}
+use Rattle.edits.specs.Mirror.{AreConcerned, IsCreaseImage, ImageOf, ImagesOf, MirrorImages}
+use Rattle.edits.specs.Lines.{LineOf, LinesOf}
 use Rattle.edits.specs.declared.refusal.EditBad.{EditBad}
 use Rattle.edits.specs.declared.refusal.EditBad.TheVariants as bad
 use Rattle.edits.proofs.OneAnswer.{HasOneAnswer, gives_one, unless_one, then_one, for_each_one}
@@ -124,13 +124,13 @@ image_is_one start k small f a b h l = together (elim h.image.1 [
 pub image_one : (start : ExactPoint) (k : ℕ) → k < 16 → (f : ExactCrease) → HasOneAnswer (ImageOf start k f)
 image_one start k small f = unless_one _ _ _ (unless_one _ _ _ (unless_one _ _ _ (gives_one (IsCreaseImage start k f) (image_is_one start k small f))))
 
-pub mirrored_one : (creases : List ExactCrease) (start : ExactPoint) (k : ℕ) → k < 16 → HasOneAnswer (Mirrored creases start k)
-mirrored_one creases start k small = unless_one _ _ _ (
-    then_one (Gives (AreConcerned creases start k)) (DrawnImages creases start k) (gives_one (AreConcerned creases start k) (creases_are_one _)) (λ concerned _.
-    unless_one (concerned ≡ []) bad.NoCrease _ (then_one (ForEach (ImageOf start k) concerned) (λ images. DrawnInTurn images creases) (for_each_one (ImageOf start k) (image_one start k small) concerned) (λ images _. in_turn_one images creases))))
+pub images_one : (creases : List ExactCrease) (start : ExactPoint) (k : ℕ) → k < 16 → HasOneAnswer (MirrorImages creases start k)
+images_one creases start k small = unless_one _ _ _ (
+    then_one (Gives (AreConcerned creases start k)) (ImagesOf start k) (gives_one (AreConcerned creases start k) (creases_are_one _)) (λ concerned _.
+    unless_one (concerned ≡ []) bad.NoCrease _ (for_each_one (ImageOf start k) (image_one start k small) concerned)))
 
 line_one : (f : ExactCrease) → HasOneAnswer (LineOf f)
 line_one f = unless_one _ _ _ (unless_one _ _ _ (equal_one f))
 
-pub lines_one : (given creases : List ExactCrease) → HasOneAnswer (DrawnLines given creases)
-lines_one given creases = then_one (ForEach LineOf given) (λ same. DrawnInTurn same creases) (for_each_one LineOf line_one given) (λ same _. in_turn_one same creases)
+pub lines_one : (given : List ExactCrease) → HasOneAnswer (LinesOf given)
+lines_one given = for_each_one LineOf line_one given

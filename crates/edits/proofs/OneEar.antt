@@ -11,13 +11,13 @@ use Rattle.geometry.specs.Root.{Root, plus, times, minus, count}
 use Rattle.geometry.specs.Gap.{num, dn, gx, gy, cross}
 use Rattle.geometry.proofs.Solve.{at, none, add, mul, opp, solve}
 use Rattle.geometry.proofs.Gap.{straight, above_num, turn_itself, turn_num, num_mul, dn_mul, dn_sub, num_sub, same_num, num_same, same_sub, dn_one, zero_num}
-use Rattle.geometry.proofs.Lines.{On, on_from, on_trans, on_back, one_point}
-use Rattle.geometry.proofs.Directions.{vector_whole, not_parallel}
+use Rattle.geometry.proofs.Lines.{On, on_from, on_trans, on_back, one_point, minus_zero}
+use Rattle.geometry.proofs.Directions.{vector_whole, not_parallel, unequal}
 use Rattle.geometry.proofs.Found.{one_along, turn_on}
 use Rattle.geometry.proofs.PointOrder.{ordered, same_back}
 use Rattle.qroot2.specs.Dir.{IsMiddle}
 use Rattle.plane.specs.Images.{IsFoot}
-use Rattle.plane.proofs.Imaged.{aside, aside_vector}
+use Rattle.plane.proofs.Imaged.{aside, aside_vector, not_along}
 use Rattle.plane.proofs.Orders.{point_unique}
 use Rattle.edits.specs.CreaseSet.{crease}
 use Rattle.edits.specs.Ends.{Joins}
@@ -27,7 +27,7 @@ use Rattle.edits.proofs.OneAnswer.{HasOneAnswer, gives_one, unless_one}
 use Rattle.edits.proofs.OneDrawing.{joins_one, middle_one}
 
 -- the vector of the opposite direction
-opposite_vector : (k : ℕ) → k < 16 → (num (vector ((k + 8) % 16)).x ≡ minus (num (vector k).x)) × (num (vector ((k + 8) % 16)).y ≡ minus (num (vector k).y))
+pub opposite_vector : (k : ℕ) → k < 16 → (num (vector ((k + 8) % 16)).x ≡ minus (num (vector k).x)) × (num (vector ((k + 8) % 16)).y ≡ minus (num (vector k).y))
 opposite_vector k h =
     let first = aside_vector k h in
     let small : aside k < 16 = omega arith in
@@ -83,23 +83,20 @@ unfolding cross
 cross_turned v w p r e f = rw (e, f) (solve (num v.x ∷ num v.y ∷ gx p r ∷ gy p r ∷ [])
     (add (mul (opp (at 0)) (at 3)) (opp (mul (opp (at 1)) (at 2)))) (opp (add (mul (at 0) (at 3)) (opp (mul (at 1) (at 2))))) refl)
 
-minus_none : minus (count 0) ≡ count 0
-minus_none = solve [] (opp none) none refl
-
 pub on_parallel : (k m : ℕ) (p r : ExactPoint) → k < 16 → m < 16 → k % 8 ≡ m % 8 → On (vector k) p r → On (vector m) p r
 on_parallel k m p r sk sm e h = elim (cases_order k m) [
   | inl same ↦ subst (λ z. On (vector z) p r) same h
   | inr apart ↦ (
       let far : (k + 8) % 16 ≡ m = elim apart [ inl a ↦ omega (arith, a, sk, sm, e) | inr a ↦ omega (arith, a, sk, sm, e) ] in
       let o = opposite_vector k sk in
-      subst (λ z. On (vector z) p r) far (record { on = cross_turned (vector k) (vector ((k + 8) % 16)) p r o.0 o.1 ∙ ap minus h.on ∙ minus_none }))
+      subst (λ z. On (vector z) p r) far (record { on = cross_turned (vector k) (vector ((k + 8) % 16)) p r o.0 o.1 ∙ ap minus h.on ∙ minus_zero }))
 ]
 
 -- a point beside a line is not on it
 zero_beside : (x : ExactNumber) → Positive x.a x.b → ¬ IsZero x
 zero_beside x h z = zero_not (subst (λ b. Positive (pos 0) b) z.1 (subst (λ a. Positive a x.b) z.0 h))
 
-off_line : (p q c : ExactPoint) (i : ℕ) → i < 16 → DirOf p q i → IsLeftOf p q c ⊎ IsLeftOf q p c → ¬ On (vector i) p c
+pub off_line : (p q c : ExactPoint) (i : ℕ) → i < 16 → DirOf p q i → IsLeftOf p q c ⊎ IsLeftOf q p c → ¬ On (vector i) p c
 off_line p q c i small h side on = elim side [
   | inl left ↦ zero_beside (turn (away p q) (away p c)) left ((straight (vector i) p q c h.0 (vector_whole i) (above_num h.0 h.1) h.2).1 on.on)
   | inr left ↦ (
@@ -116,15 +113,16 @@ left_apart : (p q c : ExactPoint) → IsLeftOf p q c → ¬ SamePoint p q
 left_apart p q c h s = zero_beside (turn (away p q) (away p c)) h ((zero_num (turn (away p q) (away p c))).1 (
     turn_num (away p q) (away p c) ∙ rw ((same_sub p.x q.x).0 s.x, (same_sub p.y q.y).0 s.y) (none_terms _ _ _ _ _ _)))
 
--- the corners of a triangle with a point inside are apart
-record AreApart (p q r : ExactPoint) : Type 0 where
+-- the corners of a triangle, two by two
+pub record AreApart (p q r : ExactPoint) : Type 0 where
   pub pq : ¬ SamePoint p q
   pub qr : ¬ SamePoint q r
   pub rp : ¬ SamePoint r p
 
-other_way : (p q : ExactPoint) → ¬ SamePoint p q → ¬ SamePoint q p
+pub other_way : (p q : ExactPoint) → ¬ SamePoint p q → ¬ SamePoint q p
 other_way p q n s = n (same_back q p s)
 
+-- they are apart where a point is inside
 inside_apart : (p q r c : ExactPoint) → IsInTriangle p q r c → AreApart p q r
 inside_apart p q r c h = elim h [
   | inl x ↦ record { pq = left_apart p q c x.0; qr = left_apart q r c x.1; rp = left_apart r p c x.2 }
@@ -157,10 +155,6 @@ meet_once p q c d i si h apart side a b = elim (cases_order (a.k % 8) (b.k % 8))
   | inr n ↦ crossing (unequal (a.k % 8) (b.k % 8) n)
 ]
   where
-    unequal : (m n : ℕ) → (m < n) ⊎ (n < m) → m ≢ n
-    unequal m n (inl x) e = omega (arith, x, e)
-    unequal m n (inr x) e = omega (arith, x, e)
-
     crossing : a.k % 8 ≢ b.k % 8 → SamePoint c d
     crossing n = one_point (vector a.k) (vector b.k) c d (not_parallel a.k b.k a.small b.small n) (on_from (vector a.k) p c d a.first a.second) (on_from (vector b.k) q c d b.first b.second)
 
@@ -172,7 +166,8 @@ meet_once p q c d i si h apart side a b = elim (cases_order (a.k % 8) (b.k % 8))
           | inr n ↦ apart (one_point (vector i) (vector a.k) p q (not_parallel i a.k si a.small (unequal (i % 8) (a.k % 8) n)) (dir_on p q i h) through)
         ]
 
-beside : (p q r c : ExactPoint) → IsInTriangle p q r c → IsLeftOf p q c ⊎ IsLeftOf q p c
+-- from the first side, on the left of the one or the other way along it
+pub beside : (p q r c : ExactPoint) → IsInTriangle p q r c → IsLeftOf p q c ⊎ IsLeftOf q p c
 beside p q r c h = elim h [ inl x ↦ inl x.0 | inr x ↦ inr x.2 ]
 
 pub incentre_one : (p q r c d : ExactPoint) → IsIncentre p q r c → IsIncentre p q r d → SamePoint c d
@@ -186,12 +181,9 @@ pub foot_one : (p q c f g : ExactPoint) → ¬ SamePoint p q → IsFootBetween p
 foot_one p q c f g apart h l =
     let k = one_dir p q h.0 l.0 apart h.1 l.1 h.2 l.2 in
     let first : IsFoot p l.0 c f = subst (λ z. IsFoot p z c f) k h.3 in
-    one_point (vector l.0) (vector (aside l.0)) f g (not_parallel l.0 (aside l.0) l.1 (omega arith) (crosswise l.0 l.1))
+    one_point (vector l.0) (vector (aside l.0)) f g (not_parallel l.0 (aside l.0) l.1 (omega arith) (not_along l.0 l.1))
     (on_from (vector l.0) p f g ((turn_on l.0 p f).0 first.on_axis) ((turn_on l.0 p g).0 l.3.on_axis))
     (on_trans (vector (aside l.0)) f c g ((turn_on (aside l.0) f c).0 first.upright) (on_back (vector (aside l.0)) g c ((turn_on (aside l.0) g c).0 l.3.upright)))
-  where
-    crosswise : (m : ℕ) → m < 16 → m % 8 ≢ aside m % 8
-    crosswise m s e = omega (arith, s, e)
 
 pub ear_is_one : (m : Mark) (p q r : ExactPoint) (a b : List ExactCrease) → IsEar m p q r a → IsEar m p q r b → a ≡ b
 ear_is_one m p q r a b h l =

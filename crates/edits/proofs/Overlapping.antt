@@ -5,11 +5,10 @@ use Rattle.exact.specs.Plane.{ExactPoint, ExactSegment, SamePoint, Before, IsSeg
 use Rattle.geometry.specs.Meeting.{Along}
 use Rattle.geometry.proofs.Lines.{on_trans, on_back}
 use Rattle.geometry.proofs.Directions.{one_direction}
-use Rattle.geometry.proofs.PointOrder.{ordered, before_trans, same_before, same_back}
+use Rattle.geometry.proofs.PointOrder.{ordered, before_trans, same_before, same_back, before_later}
 use Rattle.geometry.proofs.Segments.{on_line, one_common}
 use Rattle.geometry.proofs.Found.{along_half}
 use Rattle.edits.specs.Parts.{IsPart}
-use Rattle.edits.proofs.Order.{before_later}
 use Rattle.edits.proofs.PartEnds.{along, AreOverlapping, front, back, front_is_part, back_is_part, part_is}
 
 one_way : (t s : ExactSegment) (i j : ℕ) → Along t i → Along s j → Overlap t s → i ≡ j

@@ -3,11 +3,12 @@ use Rattle.std.proofs.Common.{ℕ, ◌⊎◌, inl, inr}
 use Rattle.exact.specs.Plane.{ExactPoint, ExactSegment, SamePoint, Before, IsSegment, OnSeg, OnBoth, Overlap, vector}
 use Rattle.geometry.specs.Meeting.{Along}
 use Rattle.geometry.proofs.Lines.{On, on_from, on_trans}
-use Rattle.geometry.proofs.PointOrder.{ordered, tied, before_trans, before_not_itself, before_not_back, same_before, same_back, same_trans}
+use Rattle.geometry.proofs.PointOrder.{ordered, tied, before_trans, before_not_itself, before_not_back, same_before, same_back, same_trans, not_past, before_later, later_of, earlier_of}
 use Rattle.geometry.proofs.Segments.{on_line, on_seg, end_on, end_p, end_q, covered, overlapped}
 use Rattle.geometry.proofs.Parts.{part_along}
+use Rattle.pattern.proofs.LastSegments.{ended}
 use Rattle.edits.specs.Parts.{Covers, IsOutside, IsPart}
-use Rattle.edits.proofs.Order.{not_past, before_later, later, earlier, later_before}
+use Rattle.edits.proofs.Order.{later_before}
 
 unfoldable pub front : ExactSegment → ExactSegment → ExactSegment
 front t s = record { p = t.p; q = s.p }
@@ -24,8 +25,8 @@ along s h = record { small = h.1.1; ordered = h.0; dir = h.1.2 }
 -- each begins before the other ends
 pub both_pass : (u s : ExactSegment) (k : ℕ) → Along u k → Along s k → On (vector k) u.p s.p → Before s.p u.q → Before u.p s.q → Overlap u s
 both_pass u s k a b h l m =
-    let lo = later u.p s.p in
-    let hi = earlier u.q s.q in
+    let lo = later_of u.p s.p in
+    let hi = earlier_of u.q s.q in
     overlapped u s k lo.0 hi.0 a b h lo.1 hi.1 (later_before u.p s.p u.q s.q lo.0 hi.0 lo.1 hi.1 a.ordered m l b.ordered)
 
 -- without overlap one ends where the other begins, or before
@@ -35,13 +36,7 @@ clear_of u s k a b h n = elim (ordered s.p u.q) [
   | inr r ↦ inl (not_past s.p u.q r)
 ]
 
--- segments of which one ends where the other begins, or before
-pub ended : (u s : ExactSegment) → ¬ Before s.p u.q → ¬ Overlap u s
-ended u s n v = v.2 (same_trans v.0 s.p v.1 (at_start v.0 v.3) (same_back v.1 s.p (at_start v.1 v.4)))
-  where
-    at_start : (x : ExactPoint) → OnBoth x u s → SamePoint x s.p
-    at_start x h = tied x s.p h.1.from (λ b. n (before_later s.p x u.q b h.0.to))
-
+-- segments of which one begins where the other ends, or behind
 pub begun : (u s : ExactSegment) → ¬ Before u.p s.q → ¬ Overlap u s
 begun u s n v = v.2 (same_trans v.0 u.p v.1 (at_start v.0 v.3) (same_back v.1 u.p (at_start v.1 v.4)))
   where

@@ -1,14 +1,14 @@
 -- Of two points of a ray one comes after the other, or they are one.
-use Rattle.std.proofs.Common.{◌≡◌, ℕ, [], ◌∷◌, refl, sym, ap, ◌∙◌, ◌⊎◌, inl, inr}
+use Rattle.std.proofs.Common.{◌≡◌, ℕ, [], ◌∷◌, refl, ap, ◌∙◌, ◌⊎◌, inl, inr}
 use Rattle.exact.specs.Number.{ExactNumber, Same, Less, sub, mul as mul_exact}
 use Rattle.exact.specs.Plane.{ExactPoint, SamePoint, vector}
 use Rattle.exact.proofs.Order.{linear}
-use Rattle.geometry.specs.Root.{Root, plus, times, minus, count, Above}
+use Rattle.geometry.specs.Root.{Root, plus, times, minus, count}
 use Rattle.geometry.specs.Gap.{num, dn}
-use Rattle.geometry.proofs.RootRing.{plus_minus, cancel_plus}
 use Rattle.geometry.proofs.Solve.{at, add, mul, opp, solve}
 use Rattle.geometry.proofs.Gap.{dn_above, num_mul, dn_mul, dn_sub, num_sub, same_num, num_same, less_num, same_sub, out_right, in_right}
 use Rattle.geometry.proofs.Parts.{num_positive}
+use Rattle.plane.proofs.Imaged.{cancel_times}
 use Rattle.edits.specs.Rays.{OnRay}
 
 -- A/a and B/b are T/t and U/u times V/v away from P/p: then they are the difference apart
@@ -25,12 +25,6 @@ apart_core A a B b P p T t U u V v h k =
     (add (mul (mul (at 0) (at 4)) (mul (mul (at 5) (at 7)) (mul (at 1) (at 2)))) (opp (mul (mul (at 1) (at 6)) (mul (mul (at 3) (at 7)) (mul (at 0) (at 2))))))
     (mul (mul (mul (add (mul (at 5) (at 4)) (opp (mul (at 3) (at 6)))) (at 7)) (mul (at 1) (at 0))) (at 2))
     refl
-
-cancel_times : (x y z : Root) → Above z → times x z ≡ times y z → x ≡ y
-cancel_times x y z h e =
-    cancel_plus x y (minus y) (
-    out_right (plus x (minus y)) z h (solve (x ∷ y ∷ z ∷ []) (mul (add (at 0) (opp (at 1))) (at 2)) (add (mul (at 0) (at 2)) (opp (mul (at 1) (at 2)))) refl ∙ ap (λ t. plus t (minus (times y z))) e ∙ plus_minus (times y z))
-    ∙ sym (plus_minus y))
 
 apart : (a b p t u v : ExactNumber) → Same (sub a p) (mul_exact t v) → Same (sub b p) (mul_exact u v) → Same (sub b a) (mul_exact (sub u t) v)
 apart a b p t u v h k = num_same (sub b a) (mul_exact (sub u t) v) (

@@ -1,15 +1,14 @@
 -- A segment runs along a ray from its start on just where the start is on it, in front of the end to which the ray leads.
-use Rattle.std.proofs.Common.{◌≡◌, ◌≢◌, ℕ, ◌%◌, ◌<◌, subst, ◌⊎◌, inl, inr, arith}
+use Rattle.std.proofs.Common.{◌≡◌, ℕ, ◌%◌, ◌<◌, subst, ◌⊎◌, inl, inr}
 use Rattle.std.proofs.lemmas.Bool.{cases_order}
 use Rattle.exact.specs.Plane.{ExactPoint, ExactSegment, Before, OnSeg, vector}
 use Rattle.geometry.specs.Meeting.{Along}
 use Rattle.geometry.proofs.Lines.{On, on_from, on_trans, on_back, one_point}
-use Rattle.geometry.proofs.Directions.{not_parallel, one_direction}
+use Rattle.geometry.proofs.Directions.{not_parallel, one_direction, unequal}
 use Rattle.geometry.proofs.Found.{along_half}
-use Rattle.geometry.proofs.PointOrder.{before_trans, before_not_back, same_itself}
+use Rattle.geometry.proofs.PointOrder.{before_trans, before_not_back, same_itself, before_later}
 use Rattle.geometry.proofs.Segments.{on_line, on_seg, end_on}
 use Rattle.edits.specs.Rays.{OnRay, RunsAlong}
-use Rattle.edits.proofs.Order.{before_later}
 use Rattle.edits.proofs.Halfway.{between}
 use Rattle.edits.proofs.RaySides.{dir_apart, leads_on, ray_on}
 
@@ -62,14 +61,10 @@ runs_starts start k j s small half a h = record {
     m_on : OnSeg m s
     m_on = h.2 m m_ray (λ x. before_not_back m e (leads_on m e k small half m_short) (leads_on e m k small half x))
 
-    unequal : (j % 8 < k % 8) ⊎ (k % 8 < j % 8) → j % 8 ≢ k % 8
-    unequal (inl x) d = omega (arith, x, d)
-    unequal (inr x) d = omega (arith, x, d)
-
     one_way : j ≡ k
     one_way = elim (cases_order (j % 8) (k % 8)) [
       | inl same ↦ one_direction j k a.small small (along_half s j a) half same
-      | inr n ↦ absurd (dir_apart m e k small m_short (one_point (vector j) (vector k) m e (not_parallel j k a.small small (unequal n))
+      | inr n ↦ absurd (dir_apart m e k small m_short (one_point (vector j) (vector k) m e (not_parallel j k a.small small (unequal (j % 8) (k % 8) n))
           (on_from (vector j) s.p m e (on_line s j m a m_on) (on_line s j e a e_on)) (on_from (vector k) start m e (dir_line m m_ray) (dir_line e h.1))))
     ]
 

@@ -1,10 +1,10 @@
 -- A segment runs along a ray that leads back just where the start is on it, behind the end to which the ray leads.
-use Rattle.std.proofs.Common.{◌≡◌, ◌≢◌, ℕ, ◌+◌, ◌%◌, ◌<◌, ◌≤◌, subst, ◌⊎◌, inl, inr, arith}
+use Rattle.std.proofs.Common.{◌≡◌, ℕ, ◌+◌, ◌%◌, ◌<◌, ◌≤◌, subst, inl, inr, arith}
 use Rattle.std.proofs.lemmas.Bool.{cases_order}
 use Rattle.exact.specs.Plane.{ExactPoint, ExactSegment, Before, OnSeg, vector}
 use Rattle.geometry.specs.Meeting.{Along}
 use Rattle.geometry.proofs.Lines.{On, on_from, on_trans, on_back, one_point}
-use Rattle.geometry.proofs.Directions.{not_parallel, one_direction}
+use Rattle.geometry.proofs.Directions.{not_parallel, one_direction, unequal}
 use Rattle.geometry.proofs.Found.{along_half}
 use Rattle.geometry.proofs.PointOrder.{before_trans, before_not_back, same_itself}
 use Rattle.geometry.proofs.Segments.{on_line, on_seg, end_on}
@@ -70,14 +70,10 @@ runs_starts_back start k j s low high a h = record {
     m_on : OnSeg m s
     m_on = h.2 m m_ray (λ x. before_not_back e m (leads_back m e k low high m_short) (leads_back e m k low high x))
 
-    unequal : (j % 8 < (k + 8) % 16 % 8) ⊎ ((k + 8) % 16 % 8 < j % 8) → j % 8 ≢ (k + 8) % 16 % 8
-    unequal (inl x) d = omega (arith, x, d)
-    unequal (inr x) d = omega (arith, x, d)
-
     one_way : j ≡ (k + 8) % 16
     one_way = elim (cases_order (j % 8) ((k + 8) % 16 % 8)) [
       | inl same ↦ one_direction j ((k + 8) % 16) a.small (omega arith) (along_half s j a) (opposite_half k low high) same
-      | inr n ↦ absurd (dir_apart m e k small m_short (one_point (vector j) (vector ((k + 8) % 16)) m e (not_parallel j ((k + 8) % 16) a.small (omega arith) (unequal n))
+      | inr n ↦ absurd (dir_apart m e k small m_short (one_point (vector j) (vector ((k + 8) % 16)) m e (not_parallel j ((k + 8) % 16) a.small (omega arith) (unequal (j % 8) ((k + 8) % 16 % 8) n))
           (on_from (vector j) s.p m e (on_line s j m a m_on) (on_line s j e a e_on)) (line_of m e k low high m_short)))
     ]
 

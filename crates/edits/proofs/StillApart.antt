@@ -1,5 +1,5 @@
 -- After a drawing no two creases overlap.
-use Rattle.std.proofs.Common.{◌≡◌, ◌<◌, List, get_or, sym, ap, subst, ◌∙◌, ◌⊎◌, inl, inr, arith}
+use Rattle.std.proofs.Common.{◌≡◌, List, get_or, sym, ap, subst, ◌∙◌, ◌⊎◌, inl, inr, arith}
 use Rattle.std.proofs.lemmas.List.{get_or_default}
 use Rattle.std.specs.Prelude.{All, AllPairs, Contains, slice_index_or}
 use Rattle.std.proofs.lemmas.Bool.{cases_order}
@@ -7,14 +7,12 @@ use Rattle.std.proofs.lemmas.List.Elements.{All-contains}
 use Rattle.exact.specs.Plane.{ExactSegment, SamePoint, Before, IsSegment, Overlap, SegmentBefore}
 use Rattle.sheet.specs.Pattern.{ExactCrease, IsPattern, IsKey}
 use Rattle.geometry.proofs.PointOrder.{before_not_same, before_not_back, same_before, before_same, same_back, same_trans}
+use Rattle.pattern.proofs.LastSegments.{ended}
+use Rattle.pattern.proofs.Members.{segment_not_back, pair_at}
+use Rattle.pattern.proofs.Overlaps.{overlap_back}
 use Rattle.edits.specs.Parts.{Covers, IsPart}
 use Rattle.edits.specs.Drawn.{IsLeft, StandsAfter, Drawn}
-use Rattle.edits.proofs.PartEnds.{ended}
 use Rattle.edits.proofs.Overlapping.{only_parts}
-use Rattle.edits.proofs.OneList.{segment_strict}
-
-pub overlap_back : (s t : ExactSegment) → Overlap s t → Overlap t s
-overlap_back s t v = (v.0, v.1, v.2, (v.3.1, v.3.0), (v.4.1, v.4.0))
 
 -- what is on segments that do not overlap does not overlap
 pub overlap_wider : (u w t s : ExactSegment) → Covers t u → Covers s w → Overlap u w → Overlap t s
@@ -23,19 +21,22 @@ overlap_wider u w t s c d v = (v.0, v.1, v.2, (c v.0 v.3.0, d v.0 v.3.1), (c v.1
 pub covers_itself : (s : ExactSegment) → Covers s s
 covers_itself s = λ r on. on
 
+abbrev Apart : ExactCrease → ExactCrease → Type 0
+Apart f g = ¬ Overlap f.seg g.seg
+
 -- two creases of a pattern are one, or do not overlap
 pub one_or_apart : (creases : List ExactCrease) → AllPairs (λ f g. ¬ Overlap f.seg g.seg) creases → (f g : ExactCrease) → Contains creases f → Contains creases g → (f ≡ g) ⊎ (¬ Overlap f.seg g.seg)
 one_or_apart creases apart f g c d = elim (cases_order c.0 d.0) [
   | inl e ↦ inl (sym c.2 ∙ get_or_default creases c.0 f g c.1 ∙ ap (λ i. slice_index_or creases i g) e ∙ d.2)
   | inr n ↦ elim n [
-    | inl l ↦ inr (told f g c d l)
-    | inr l ↦ inr (λ v. told g f d c l (overlap_back f.seg g.seg v))
+    | inl l ↦ inr (pair_at Apart creases f g apart c d l)
+    | inr l ↦ inr (λ v. pair_at Apart creases g f apart d c l (overlap_back f.seg g.seg v))
   ]
 ]
-  where
-    told : (f g : ExactCrease) (c : Contains creases f) (d : Contains creases g) → c.0 < d.0 → ¬ Overlap f.seg g.seg
-    told f g c d l = subst (λ (y : ExactCrease). ¬ Overlap f.seg y.seg) (get_or_default creases d.0 f g d.1 ∙ d.2)
-        (subst (λ (x : ExactCrease). ¬ Overlap x.seg (slice_index_or creases d.0 f).seg) c.2 (apart c.0 d.0 f l d.1))
+
+-- a segment does not come before itself
+pub one_segment : (u w : ExactSegment) → SamePoint u.p w.p → SamePoint u.q w.q → ¬ SegmentBefore u w
+one_segment u w e f b = elim b [ inl a ↦ before_not_same u.p w.p a e | inr a ↦ before_not_same u.q w.q a.1 f ]
 
 -- two largest parts of one segment do not overlap, where one comes before the other
 pub parts_apart : (u w t s : ExactSegment) → IsSegment t → IsSegment s → Overlap t s → IsPart u t s → IsPart w t s → SegmentBefore u w → ¬ Overlap u w
@@ -50,9 +51,6 @@ parts_apart u w t s h l v p q b = elim (only_parts u t s h l v p) [
   ]
 ]
   where
-    one_segment : (u w : ExactSegment) → SamePoint u.p w.p → SamePoint u.q w.q → ¬ SegmentBefore u w
-    one_segment u w e f b = elim b [ inl a ↦ before_not_same u.p w.p a e | inr a ↦ before_not_same u.q w.q a.1 f ]
-
     -- the one in front ends where s begins, and the one behind begins where s ends
     passed : (u w : ExactSegment) → SamePoint u.q s.p → SamePoint w.p s.q → ¬ Before w.p u.q
     passed u w e f x = before_not_back s.p s.q l.0 (same_before w.p s.q s.p f (before_same w.p u.q s.p e x))
@@ -62,7 +60,7 @@ pub stand_apart : (creases : List ExactCrease) (d f g : ExactCrease) → All (λ
     → StandsAfter creases d f → StandsAfter creases d g → SegmentBefore f.seg g.seg → ¬ Overlap f.seg g.seg
 stand_apart creases d f g keys apart h x y b = elim x [
   | inl e ↦ elim y [
-    | inl k ↦ absurd (segment_strict g.seg g.seg (subst (λ (z : ExactCrease). SegmentBefore z.seg g.seg) (e ∙ sym k) b) (subst (λ (z : ExactCrease). SegmentBefore z.seg g.seg) (e ∙ sym k) b))
+    | inl k ↦ absurd (segment_not_back g.seg g.seg (subst (λ (z : ExactCrease). SegmentBefore z.seg g.seg) (e ∙ sym k) b) (subst (λ (z : ExactCrease). SegmentBefore z.seg g.seg) (e ∙ sym k) b))
     | inr k ↦ (λ o. off g k (overlap_back d.seg g.seg (subst (λ (z : ExactCrease). Overlap z.seg g.seg) e o)))
   ]
   | inr l ↦ elim y [
@@ -89,7 +87,7 @@ stand_apart creases d f g keys apart h x y b = elim x [
     left_apart l k = elim l [
       | inl a ↦ elim k [
         | inl c ↦ elim (one_or_apart creases apart f g a.0 c.0) [
-          | inl e ↦ absurd (let r : SegmentBefore g.seg g.seg = subst (λ (z : ExactCrease). SegmentBefore z.seg g.seg) e b in segment_strict g.seg g.seg r r)
+          | inl e ↦ absurd (let r : SegmentBefore g.seg g.seg = subst (λ (z : ExactCrease). SegmentBefore z.seg g.seg) e b in segment_not_back g.seg g.seg r r)
           | inr n ↦ n
         ]
         | inr c ↦ whole_and_part f c.0 g.seg a.0 a.1 c.1 c.2 c.3

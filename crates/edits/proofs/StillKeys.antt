@@ -1,5 +1,5 @@
 -- After a drawing over a pattern each crease is what a pattern may have, so they are a pattern where they are few.
-use Rattle.std.proofs.Common.{◌≢◌, ℕ, ◌%◌, ◌<◌, ◌≤◌, List, length, get_or, sym, subst, ◌⊎◌, inl, inr, arith}
+use Rattle.std.proofs.Common.{ℕ, ◌%◌, ◌<◌, ◌≤◌, List, length, get_or, sym, subst, inl, inr, arith}
 use Rattle.std.specs.Prelude.{All}
 use Rattle.std.proofs.lemmas.Bool.{cases_order}
 use Rattle.std.proofs.lemmas.List.Elements.{All-contains}
@@ -11,13 +11,12 @@ use Rattle.sheet.specs.Sheet.{InSheet, IsWithin, OnBorder}
 use Rattle.sheet.specs.Pattern.{ExactCrease, IsPattern, IsKey}
 use Rattle.geometry.specs.Meeting.{Along}
 use Rattle.geometry.proofs.Lines.{On, one_point}
-use Rattle.geometry.proofs.Directions.{not_parallel}
+use Rattle.geometry.proofs.Directions.{not_parallel, unequal}
 use Rattle.geometry.proofs.PointOrder.{before_not_same, same_back}
 use Rattle.geometry.proofs.Plain.{upright_on, flat_on}
 use Rattle.geometry.proofs.Segments.{on_line, end_on}
-use Rattle.plane.specs.Corners.{IsEnd}
 use Rattle.plane.specs.Segments.{HasCanonicalEnds}
-use Rattle.plane.proofs.SheetSides.{on_one_side}
+use Rattle.plane.proofs.SheetSides.{on_one_side, end_moved}
 use Rattle.edits.specs.Parts.{Covers, IsPart}
 use Rattle.edits.specs.Drawn.{StandsAfter, Drawn}
 use Rattle.edits.proofs.PartEnds.{IsOn, covered_on, along}
@@ -37,19 +36,12 @@ within_moved x y s h = (at_most_moved (whole 0) (whole 0) x y (same_itself (whol
 pub in_moved : (p q : ExactPoint) → SamePoint p q → InSheet p → InSheet q
 in_moved p q s h = (within_moved p.x q.x s.x h.0, within_moved p.y q.y s.y h.1)
 
-end_moved : (x y : ExactNumber) → Same x y → IsEnd x → IsEnd y
-end_moved x y s h = elim h [ inl e ↦ inl (same_on (whole 0) x y e s) | inr e ↦ inr (same_on (whole 1) x y e s) ]
-
 -- a part of t that lies on a line of direction m leaves t on it
 same_line : (u t : ExactSegment) (k m : ℕ) → m < 16 → Along t k → IsOn u t k → On (vector m) u.p u.q → On (vector m) t.p u.p × On (vector m) t.p t.q
 same_line u t k m small a on h = elim (cases_order (k % 8) (m % 8)) [
   | inl e ↦ (on_parallel k m t.p u.p a.small small e (on_line t k u.p a on.from), on_parallel k m t.p t.q a.small small e (end_on t k a))
-  | inr n ↦ absurd (before_not_same u.p u.q on.along.ordered (one_point (vector k) (vector m) u.p u.q (not_parallel k m a.small small (unequal n)) (end_on u k on.along) h))
+  | inr n ↦ absurd (before_not_same u.p u.q on.along.ordered (one_point (vector k) (vector m) u.p u.q (not_parallel k m a.small small (unequal (k % 8) (m % 8) n)) (end_on u k on.along) h))
 ]
-  where
-    unequal : (k % 8 < m % 8) ⊎ (m % 8 < k % 8) → k % 8 ≢ m % 8
-    unequal (inl x) e = omega (arith, x, e)
-    unequal (inr x) e = omega (arith, x, e)
 
 -- a segment on one in the sheet is on a side only where that one is
 pub part_inner : (u t : ExactSegment) → IsSegment t → InSheet t.p → InSheet t.q → ¬ OnBorder t → IsSegment u → Covers t u → ¬ OnBorder u

@@ -8,19 +8,20 @@ use Rattle.sheet.specs.Pattern.{ExactCrease, IsPattern, IsKey}
 use Rattle.sheet.specs.declared.Colour.{Colour}
 use Rattle.sheet.specs.declared.Colour.TheVariants as colour
 use Rattle.geometry.specs.Meeting.{IsLater, IsEarlier}
-use Rattle.geometry.proofs.PointOrder.{before_not_same}
+use Rattle.geometry.proofs.PointOrder.{later_of, earlier_of}
 use Rattle.geometry.proofs.Segments.{shared_on, overlap_is}
 use Rattle.geometry.proofs.Parts.{part_along}
 use Rattle.plane.specs.Segments.{HasCanonicalEnds}
+use Rattle.pattern.proofs.Members.{segment_not_back}
+use Rattle.pattern.proofs.Overlaps.{overlap_back}
 use Rattle.edits.specs.Parts.{Covers, IsCommonPart}
 use Rattle.edits.specs.CreaseSet.{AreCreases, crease}
 use Rattle.edits.specs.Drawn.{IsLeft}
 use Rattle.edits.specs.Recolour.{StaysWhole, ComesFrom, StandsRecoloured}
 use Rattle.edits.proofs.PartEnds.{along, same_ends}
-use Rattle.edits.proofs.OneList.{segment_strict}
-use Rattle.edits.proofs.StillApart.{stand_apart, parts_apart, one_or_apart, overlap_back, overlap_wider, covers_itself}
+use Rattle.edits.proofs.StillApart.{stand_apart, parts_apart, one_or_apart, overlap_wider, covers_itself, one_segment}
 use Rattle.edits.proofs.StillKeys.{stands_key, part_is_key, part_inner, in_moved}
-use Rattle.edits.proofs.Order.{later, earlier, later_before}
+use Rattle.edits.proofs.Order.{later_before}
 use Rattle.edits.proofs.Overlapping.{overlapping}
 
 -- What is left beside a segment of a pattern is a pattern, where it is few.
@@ -57,16 +58,13 @@ pieces_apart t f g s c h l v x y b = elim x [
     | inr d ↦ absurd (let e = common_one f.seg g.seg t.seg s a.0 d.0 in one_segment f.seg g.seg e.0 e.1 b)
   ]
 ]
-  where
-    one_segment : (u w : ExactSegment) → SamePoint u.p w.p → SamePoint u.q w.q → ¬ SegmentBefore u w
-    one_segment u w e f b = elim b [ inl a ↦ before_not_same u.p w.p a e | inr a ↦ before_not_same u.q w.q a.1 f ]
 
 recoloured_apart : (creases : List ExactCrease) (s : ExactSegment) (c : Colour) (f g : ExactCrease) → All (λ (t : ExactCrease). IsKey t.seg) creases → AllPairs (λ (f : ExactCrease) (g : ExactCrease). ¬ Overlap f.seg g.seg) creases → IsSegment s
     → StandsRecoloured creases s c f → StandsRecoloured creases s c g → SegmentBefore f.seg g.seg → ¬ Overlap f.seg g.seg
 recoloured_apart creases s c f g keys apart h x y b = elim x [
   | inl a ↦ elim y [
     | inl d ↦ elim (one_or_apart creases apart f g a.0 d.0) [
-      | inl e ↦ absurd (let r : SegmentBefore g.seg g.seg = subst (λ (z : ExactCrease). SegmentBefore z.seg g.seg) e b in segment_strict g.seg g.seg r r)
+      | inl e ↦ absurd (let r : SegmentBefore g.seg g.seg = subst (λ (z : ExactCrease). SegmentBefore z.seg g.seg) e b in segment_not_back g.seg g.seg r r)
       | inr n ↦ n
     ]
     | inr d ↦ whole_and_piece f d.0 g a.0 a.1 d.1 d.2 d.3 d.4
@@ -87,7 +85,7 @@ recoloured_apart creases s c f g keys apart h x y b = elim x [
       | inr z ↦ z (overlap_wider u.seg w.seg u.seg t.seg (covers_itself u.seg) (comes_on t w s c p) o)
     ]
 
--- the later of the lesser ends and the earlier of the greater ones are those of the common part
+-- the later_of of the lesser ends and the earlier_of of the greater ones are those of the common part
 pub common_part : (t s lo_hi : ExactSegment) → IsSegment t → IsSegment s → Overlap t s → IsLater t.p s.p lo_hi.p → IsEarlier t.q s.q lo_hi.q → IsCommonPart lo_hi t s
 common_part t s u h l v lo hi =
     let o = overlapping t s h l v in
@@ -109,10 +107,10 @@ common_is_key u t s a b v h c = record {
 }
   where
     lo : (m : ExactPoint) × IsLater t.p s.p m
-    lo = later t.p s.p
+    lo = later_of t.p s.p
 
     hi : (m : ExactPoint) × IsEarlier t.q s.q m
-    hi = earlier t.q s.q
+    hi = earlier_of t.q s.q
 
     shared : ExactSegment
     shared = record { p = lo.0; q = hi.0 }

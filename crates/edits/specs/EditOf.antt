@@ -10,15 +10,15 @@ use Rattle.edits.specs.Recolour.{Recoloured}
 use Rattle.edits.specs.Flip.{flipped}
 use Rattle.edits.specs.Extend.{Extension}
 use Rattle.edits.specs.Bisect.{Bisector}
-use Rattle.edits.specs.Mirror.{Mirrored}
+use Rattle.edits.specs.Mirror.{MirrorImages}
 use Rattle.edits.specs.RabbitEar.{EarOf}
-use Rattle.edits.specs.Lines.{DrawnLines}
+use Rattle.edits.specs.Lines.{LinesOf}
 use Rattle.edits.specs.declared.edit.Edit.{Edit}
 use Rattle.edits.specs.declared.edit.Edit.TheVariants as edit
 use Rattle.edits.specs.declared.refusal.EditBad.{EditBad}
 use Rattle.edits.specs.declared.refusal.EditBad.TheVariants as bad
 
--- what the edit makes of the creases, or its first broken rule, but for that of no change
+-- What the edit makes of the creases, or its first broken rule, but for that of no change. Where several creases are drawn, all are found and tested before the first is drawn.
 abbrev pub Edited : List ExactCrease → Edit → Result (List ExactCrease) EditBad → Type 0
 Edited creases (edit.Draw c from to) = Then (EndsOf from to) (λ s. DrawnOne (crease s c) creases)
 Edited creases (edit.Erase from to) = Then (EndsOf from to) (λ s. Erased creases s)
@@ -26,9 +26,9 @@ Edited creases (edit.Recolour c from to) = Then (EndsOf from to) (λ s. Recolour
 Edited creases edit.Flip = Gives (λ after. after ≡ flipped creases)
 Edited creases (edit.Extend c at k) = Then (Extension creases at k) (λ s. DrawnOne (crease s c) creases)
 Edited creases (edit.Bisect c at first second) = Then (Bisector creases at first second) (λ s. DrawnOne (crease s c) creases)
-Edited creases (edit.Mirror at k) = Mirrored creases at k
+Edited creases (edit.Mirror at k) = Then (MirrorImages creases at k) (λ images. DrawnInTurn images creases)
 Edited creases (edit.RabbitEar m p q r) = Then (EarOf m p q r) (λ ear. DrawnInTurn ear creases)
-Edited creases (edit.Lines given) = DrawnLines given creases
+Edited creases (edit.Lines given) = Then (LinesOf given) (λ lines. DrawnInTurn lines creases)
 
 -- what comes after the creases has to be something else
 abbrev pub Changed : List ExactCrease → List ExactCrease → Result (List ExactCrease) EditBad → Type 0

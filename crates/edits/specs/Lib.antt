@@ -1,7 +1,9 @@
 pub mod Rules
+pub mod Answers
 pub mod Parts
 pub mod CreaseSet
 pub mod Drawn
+pub mod Drafts
 pub mod Ends
 pub mod Erase
 pub mod Recolour
@@ -14,3 +16,10 @@ pub mod Triangles
 pub mod RabbitEar
 pub mod Lines
 pub mod EditOf
+pub mod Places
+pub mod Stores
+pub mod Pieces
+pub mod Foldable
+pub mod Sights
+pub mod Walls
+pub mod Lefts

@@ -1,10 +1,9 @@
--- Many creases that are drawn one after another.
+-- Many creases that are given to be drawn.
 use Rattle.std.specs.Prelude.{◌≡◌, List, Result}
 use Rattle.sheet.specs.Sheet.{OnBorder}
 use Rattle.sheet.specs.Pattern.{ExactCrease}
-use Rattle.edits.specs.Rules.{Gives, Unless, Then, ForEach}
+use Rattle.edits.specs.Rules.{Gives, Unless, ForEach}
 use Rattle.edits.specs.Ends.{AreInSheet}
-use Rattle.edits.specs.Drawn.{DrawnInTurn}
 use Rattle.edits.specs.declared.refusal.EditBad.{EditBad}
 use Rattle.edits.specs.declared.refusal.EditBad.TheVariants as bad
 
@@ -15,6 +14,6 @@ LineOf f =
     (Unless (OnBorder f.seg) bad.OnBorder
     (Gives (λ same. same ≡ f)))
 
--- All are tested before one is drawn.
-abbrev pub DrawnLines : List ExactCrease → List ExactCrease → Result (List ExactCrease) EditBad → Type 0
-DrawnLines given creases = Then (ForEach LineOf given) (λ same. DrawnInTurn same creases)
+-- the creases that are given, where each can be drawn
+abbrev pub LinesOf : List ExactCrease → Result (List ExactCrease) EditBad → Type 0
+LinesOf given = ForEach LineOf given

@@ -9,7 +9,6 @@ use Rattle.plane.specs.Segments.{HasCanonicalEnds}
 use Rattle.plane.specs.Images.{IsImage}
 use Rattle.edits.specs.Rules.{Gives, Unless, Then, ForEach}
 use Rattle.edits.specs.CreaseSet.{AreCreases}
-use Rattle.edits.specs.Drawn.{DrawnInTurn}
 use Rattle.edits.specs.declared.refusal.EditBad.{EditBad}
 use Rattle.edits.specs.declared.refusal.EditBad.TheVariants as bad
 use Rattle.edits.specs.declared.refusal.PointKind.TheVariants as point
@@ -46,14 +45,12 @@ ImageOf at k f =
     (Unless ((u : ExactSegment) × IsSegmentImage at k f.seg u × OnBorder u) bad.OnBorder
     (Gives (IsCreaseImage at k f))))
 
--- The images of the creases concerned are drawn in turn. All are tested before one is drawn.
-abbrev pub DrawnImages : List ExactCrease → ExactPoint → ℕ → List ExactCrease → Result (List ExactCrease) EditBad → Type 0
-DrawnImages creases at k concerned =
-    Unless (concerned ≡ []) bad.NoCrease
-    (Then (ForEach (ImageOf at k) concerned) (λ images. DrawnInTurn images creases))
+-- the images of the creases concerned, in their order
+abbrev pub ImagesOf : ExactPoint → ℕ → List ExactCrease → Result (List ExactCrease) EditBad → Type 0
+ImagesOf at k concerned = Unless (concerned ≡ []) bad.NoCrease (ForEach (ImageOf at k) concerned)
 
--- the creases with the images of those concerned drawn over them
-abbrev pub Mirrored : List ExactCrease → ExactPoint → ℕ → Result (List ExactCrease) EditBad → Type 0
-Mirrored creases at k =
+-- what is drawn: the images of all creases that are mirrored
+abbrev pub MirrorImages : List ExactCrease → ExactPoint → ℕ → Result (List ExactCrease) EditBad → Type 0
+MirrorImages creases at k =
     Unless (¬ InSheet at) bad.Outside
-    (Then (Gives (AreConcerned creases at k)) (DrawnImages creases at k))
+    (Then (Gives (AreConcerned creases at k)) (ImagesOf at k))

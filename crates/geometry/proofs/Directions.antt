@@ -58,6 +58,11 @@ zero_size : size (count 0) ≡ 0
 unfolding count
 zero_size = refl
 
+-- of numbers, such as the halves of directions, of which one is less than the other
+pub unequal : (m n : ℕ) → (m < n) ⊎ (n < m) → m ≢ n
+unequal m n (inl x) e = omega (arith, x, e)
+unequal m n (inr x) e = omega (arith, x, e)
+
 pub not_parallel : (k j : ℕ) → k < 16 → j < 16 → k % 8 ≢ j % 8 → det (vector j) (vector k) ≢ count 0
 not_parallel k j p q n e =
     let t : turns_test k j ≡ true = all_below_at 16 (λ i. turns_test k i) (all_below_at 16 (λ i. all_below 16 (λ l. turns_test i l)) turns_tested k p) j q in

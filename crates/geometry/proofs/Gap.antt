@@ -135,25 +135,28 @@ pub turn_num : (U w : ExactPoint) → num (turn U w) ≡ plus (times (times (num
 turn_num U w = num_sub (mul_exact U.x w.y) (mul_exact U.y w.x)
     ∙ rw (num_mul U.x w.y, num_mul U.y w.x, dn_mul U.x w.y, dn_mul U.y w.x) refl
 
+-- c is a times the whole number b
+pub whole_times : (a b : ExactNumber) → b.d ≡ 1 → (c : ExactNumber) → Same c (mul_exact a b) → times (num c) (dn a) ≡ times (times (num a) (num b)) (dn c)
+whole_times a b o c s = ap (times (num c)) (sym (dn_whole a b o)) ∙ same_num c (mul_exact a b) s ∙ ap (λ z. times z (dn c)) (num_mul a b)
+
+-- the turn of the definition, where the way from p to q is t times v
+pub turn_along : (v p q r : ExactPoint) (t : ExactNumber) → IsWhole v → SamePoint (away p q) (record { x = mul_exact t v.x; y = mul_exact t v.y }) → times (num (turn (away p q) (away p r))) (dn t) ≡ times (times (num t) (times (dn (away p q).x) (dn (away p q).y))) (cross v p r)
+unfolding cross gx gy
+turn_along v p q r t w s =
+    let W = away p q in
+    let u = away p r in
+    ap (λ z. times z (dn t)) (turn_num W u)
+    ∙ turns (num W.x) (num W.y) (num u.x) (num u.y) (dn W.x) (dn W.y) (dn u.x) (dn u.y) (dn t) (num t) (num v.x) (num v.y) (whole_times t v.x w.x W.x s.x) (whole_times t v.y w.y W.y s.y)
+
 -- the line through p along v, by the turn of the definition
 pub straight : (v p q r : ExactPoint) (t : ExactNumber) → IsWhole v → Above (num t) → SamePoint (away p q) (record { x = mul_exact t v.x; y = mul_exact t v.y }) → IsZero (turn (away p q) (away p r)) ↔ (cross v p r ≡ count 0)
-unfolding cross gx gy
-straight v p q r t w h s = (λ z. zero_out (times (num t) (times (dn W.x) (dn W.y))) _ big (sym same ∙ in_right _ _ (sym (turn_num W u) ∙ (zero_num (turn W u)).0 z)), λ e. (zero_num (turn W u)).1 (turn_num W u ∙ out_right _ _ (dn_above t) (same ∙ ap (times (times (num t) (times (dn W.x) (dn W.y)))) e ∙ times_zero _)))
+straight v p q r t w h s = (
+  λ z. zero_out (times (num t) (times (dn (away p q).x) (dn (away p q).y))) _ big (sym (turn_along v p q r t w s) ∙ in_right _ _ ((zero_num (turn (away p q) (away p r))).0 z)),
+  λ e. (zero_num (turn (away p q) (away p r))).1 (out_right _ _ (dn_above t) (turn_along v p q r t w s ∙ ap (times (times (num t) (times (dn (away p q).x) (dn (away p q).y)))) e ∙ times_zero _)),
+)
   where
-    W : ExactPoint
-    W = away p q
-
-    u : ExactPoint
-    u = away p r
-
-    big : Above (times (num t) (times (dn W.x) (dn W.y)))
-    big = above_times _ _ h (above_times _ _ (dn_above W.x) (dn_above W.y))
-
-    along : (a b : ExactNumber) → b.d ≡ 1 → (c : ExactNumber) → Same c (mul_exact a b) → times (num c) (dn a) ≡ times (times (num a) (num b)) (dn c)
-    along a b o c s = ap (times (num c)) (sym (dn_whole a b o)) ∙ same_num c (mul_exact a b) s ∙ ap (λ z. times z (dn c)) (num_mul a b)
-
-    same : times (plus (times (times (num W.x) (num u.y)) (times (dn W.y) (dn u.x))) (minus (times (times (num W.y) (num u.x)) (times (dn W.x) (dn u.y))))) (dn t) ≡ times (times (num t) (times (dn W.x) (dn W.y))) (plus (times (num v.x) (times (num u.y) (dn u.x))) (minus (times (num v.y) (times (num u.x) (dn u.y)))))
-    same = turns (num W.x) (num W.y) (num u.x) (num u.y) (dn W.x) (dn W.y) (dn u.x) (dn u.y) (dn t) (num t) (num v.x) (num v.y) (along t v.x w.x W.x s.x) (along t v.y w.y W.y s.y)
+    big : Above (times (num t) (times (dn (away p q).x) (dn (away p q).y)))
+    big = above_times _ _ h (above_times _ _ (dn_above (away p q).x) (dn_above (away p q).y))
 
 pub above_num : (t : ExactNumber) → Positive t.a t.b → Above (num t)
 unfolding num

@@ -39,7 +39,7 @@ back_terms vx vy px py pdx pdy rx ry rdx rdy = solve (vx ∷ vy ∷ px ∷ py �
 pub cross_back : (v p r : ExactPoint) → cross v r p ≡ minus (cross v p r)
 cross_back v p r = rw (cross_is v p r, cross_is v r p) (back_terms (num v.x) (num v.y) (num p.x) (num p.y) (dn p.x) (dn p.y) (num r.x) (num r.y) (dn r.x) (dn r.y))
 
-minus_zero : minus (count 0) ≡ count 0
+pub minus_zero : minus (count 0) ≡ count 0
 minus_zero = solve [] (opp none) none refl
 
 pub minus_minus : (x : Root) → minus (minus x) ≡ x

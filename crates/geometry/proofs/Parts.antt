@@ -58,7 +58,7 @@ solves_on v w p l c n s = record { on = zero_out (weight l) _ (weight_above l) (
 flipped : (a d W L z x y : Root) → times a (times d (times W L)) ≡ times z (plus x (minus y)) → times a (times (minus d) (times L W)) ≡ times z (plus y (minus x))
 flipped a d W L z x y e = solve (a ∷ d ∷ W ∷ L ∷ []) (mul (at 0) (mul (opp (at 1)) (mul (at 3) (at 2)))) (opp (mul (at 0) (mul (at 1) (mul (at 2) (at 3))))) refl ∙ ap minus e ∙ solve (z ∷ x ∷ y ∷ []) (opp (mul (at 0) (add (at 1) (opp (at 2))))) (mul (at 0) (add (at 2) (opp (at 1)))) refl
 
-det_turned : (v w : ExactPoint) → det v w ≡ minus (det w v)
+pub det_turned : (v w : ExactPoint) → det v w ≡ minus (det w v)
 unfolding det
 det_turned v w = solve (num v.x ∷ num v.y ∷ num w.x ∷ num w.y ∷ []) (add (mul (at 0) (at 3)) (opp (mul (at 1) (at 2)))) (opp (add (mul (at 2) (at 1)) (opp (mul (at 3) (at 0))))) refl
 
@@ -80,11 +80,11 @@ num_down : (x : ExactNumber) → x ≡ neg (whole 1) → num x ≡ minus (count 
 unfolding num count minus
 num_down x e = both _ _ (ap (λ (y : ExactNumber). y.a) e) (ap (λ (y : ExactNumber). y.b) e)
 
-num_neg : (x : ExactNumber) → num (neg x) ≡ minus (num x)
+pub num_neg : (x : ExactNumber) → num (neg x) ≡ minus (num x)
 unfolding num minus
 num_neg x = refl
 
-dn_neg : (x : ExactNumber) → dn (neg x) ≡ dn x
+pub dn_neg : (x : ExactNumber) → dn (neg x) ≡ dn x
 unfolding dn
 dn_neg x = refl
 

@@ -1,4 +1,4 @@
--- The order of points is total.
+-- The order of points is total, and of two points there is a later and an earlier one.
 use Rattle.std.proofs.Common.{◌≡◌, refl, sym, ap, ◌∙◌, ◌⊎◌, inl, inr}
 use Rattle.std.specs.Prelude.{◌↔◌}
 use Rattle.std.specs.declared.cmp.Ordering.{Ordering}
@@ -11,6 +11,7 @@ use Rattle.exact.specs.Order.{real_cmp}
 use Rattle.exact.specs.Plane.{ExactPoint, SamePoint, Before}
 use Rattle.exact.proofs.Positive.{less_trans}
 use Rattle.exact.proofs.Order.{real_total, real_less, real_equal, less_of, same_of, first_equal}
+use Rattle.geometry.specs.Meeting.{IsLater, IsEarlier}
 
 abbrev pub point_real_cmp : ExactPoint → ExactPoint → Ordering
 point_real_cmp = then_cmp (on (λ s. s.x) real_cmp) (on (λ s. s.y) real_cmp)
@@ -82,6 +83,28 @@ tied p q h k = elim (ordered p q) [ inl l ↦ absurd (h l) | inr r ↦ elim r [ 
 
 pub same_trans : (p q r : ExactPoint) → SamePoint p q → SamePoint q r → SamePoint p r
 same_trans p q r h k = (same_cmp p r).1 (points_total.congr p q r ((same_cmp p q).0 h) ∙ (same_cmp q r).0 k)
+
+pub not_past : (a b : ExactPoint) → SamePoint a b ⊎ Before b a → ¬ Before a b
+not_past a b r x = elim r [ inl e ↦ before_not_same a b x e | inr g ↦ before_not_back b a g x ]
+
+-- p is before a, which is not after b
+pub before_later : (p a b : ExactPoint) → Before p a → ¬ Before b a → Before p b
+before_later p a b h n = elim (ordered a b) [
+  | inl l ↦ before_trans p a b h l
+  | inr k ↦ elim k [ inl s ↦ before_same p a b s h | inr g ↦ absurd (n g) ]
+]
+
+pub later_of : (a b : ExactPoint) → (m : ExactPoint) × IsLater a b m
+later_of a b = elim (ordered a b) [
+  | inl l ↦ (b, record { one = inr refl; first = λ r. before_not_back a b l r; second = before_not_itself b })
+  | inr r ↦ (a, record { one = inl refl; first = before_not_itself a; second = not_past a b r })
+]
+
+pub earlier_of : (a b : ExactPoint) → (m : ExactPoint) × IsEarlier a b m
+earlier_of a b = elim (ordered a b) [
+  | inl l ↦ (a, record { one = inl refl; first = before_not_itself a; second = λ r. before_not_back a b l r })
+  | inr r ↦ (b, record { one = inr refl; first = not_past a b r; second = before_not_itself b })
+]
 
 pub less_not_same : (x y : ExactNumber) → Less x y → Same x y → ⊥
 less_not_same x y h s = let e = real_less x y h in let f = real_equal x y s in cc

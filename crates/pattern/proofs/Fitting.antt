@@ -1,14 +1,10 @@
 -- Why the tests decide whether a delta fits.
-use Rattle.std.proofs.Common.{◌≡◌, ◌≢◌, List, length, get_or, refl, sym, subst, ap, ◌∙◌, ◌⊎◌, inl, inr, arith}
+use Rattle.std.proofs.Common.{◌≡◌, ◌≢◌, List, length, get_or, sym, subst, ap, ◌∙◌, ◌⊎◌, inl, inr, arith}
 use Rattle.std.specs.Prelude.{All, Contains}
 use Rattle.std.proofs.lemmas.Bool.{cases_order}
 use Rattle.std.proofs.lemmas.List.{get_or_default}
 use Rattle.std.proofs.lemmas.List.Elements.{All-contains, Contains-get_or}
-use Rattle.exact.specs.Plane.{ExactSegment, IsSegment, SegmentBefore, Overlap}
-use Rattle.geometry.specs.Meeting.{Along}
-use Rattle.geometry.proofs.PointOrder.{before_not_itself}
-use Rattle.geometry.proofs.Segments.{overlapped}
-use Rattle.plane.proofs.Supports.{turn_same}
+use Rattle.exact.specs.Plane.{SegmentBefore, Overlap}
 use Rattle.plane.specs.Segments.{HasCanonicalEnds}
 use Rattle.sheet.specs.Pattern.{ExactCrease, IsPattern, IsKey}
 use Rattle.pattern.specs.Deltas.{Ascends, Stays, Leads, Fits}
@@ -16,7 +12,7 @@ use Rattle.pattern.specs.declared.delta.Delta.{Delta}
 use Rattle.pattern.specs.Fitting.{AreApart, IsFree, PassesTests}
 use Rattle.pattern.proofs.Members.{has_or_not, same_list, segment_not_itself, segment_not_back, before_at}
 use Rattle.pattern.proofs.Merged.{segments_ordered, put_all, take_all_out, IsPutAll, IsLeft}
-use Rattle.pattern.proofs.Overlaps.{overlap_back}
+use Rattle.pattern.proofs.Overlaps.{overlap_back, overlap_itself}
 use Rattle.pattern.proofs.Leading.{all_have}
 
 abbrev HasKey : ExactCrease → Type 0
@@ -27,14 +23,6 @@ key_of xs f p c = All-contains HasKey xs f p.keys c
 
 ends_of : (f : ExactCrease) → IsKey f.seg → HasCanonicalEnds f.seg
 ends_of f k = (k.from, k.to)
-
--- a segment overlaps itself
-overlap_itself : (s : ExactSegment) → IsSegment s → Overlap s s
-overlap_itself s h =
-    let k = h.1.0 in
-    let along : Along s k = record { small = h.1.1; ordered = h.0; dir = h.1.2 } in
-    overlapped s s k s.p s.q along along (record { on = (turn_same k s.p s.p).0 (record { a = refl; b = refl }) }) (record { one = inl refl; first = before_not_itself s.p; second = before_not_itself s.p })
-    (record { one = inl refl; first = before_not_itself s.q; second = before_not_itself s.q }) h.0
 
 -- of creases that stand apart, one and a later one do not overlap
 apart_of : (xs : List ExactCrease) (f g : ExactCrease) → Ascends xs → AreApart xs → Contains xs f → Contains xs g → SegmentBefore f.seg g.seg → ¬ Overlap f.seg g.seg

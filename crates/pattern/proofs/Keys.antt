@@ -1,5 +1,5 @@
 -- What a look-up by a segment finds among the creases of a map.
-use Rattle.std.proofs.Common.{◌≡◌, ◌≢◌, suc, Bool, List, [], ◌∷◌, refl, sym, ap, subst, ◌∙◌, true, false, arith}
+use Rattle.std.proofs.Common.{◌≡◌, ◌≢◌, Bool, List, [], ◌∷◌, refl, sym, ap, subst, ◌∙◌, true, false, arith}
 use Rattle.std.specs.Prelude.{Some, None, cond, Contains}
 use Rattle.std.specs.declared.cmp.Ordering.{Ordering}
 use Rattle.std.specs.declared.cmp.Ordering.TheVariants as o
@@ -15,6 +15,7 @@ use Rattle.plane.proofs.Orders.{segment_total, segment_exact}
 use Rattle.sheet.specs.Pattern.{ExactCrease}
 use Rattle.sheet.specs.declared.Colour.{Colour}
 use Rattle.pattern.specs.Creases.{crease_of, creases_of, IsUncreased}
+use Rattle.pattern.proofs.Members.{later_has}
 
 pub tied : (r : Ordering) → is_eq r ≡ true → r ≡ o.Equal
 tied o.Less h = absurd (true≢false (sym h))
@@ -23,9 +24,6 @@ tied o.Greater h = absurd (true≢false (sym h))
 
 equal_itself : (s : ExactSegment) → is_at (segment_cmp s) s ≡ true
 equal_itself s = ap is_eq (tied_itself segment_total s)
-
-contains_more : {X : Type 0} (y x : X) (xs : List X) → Contains xs x → Contains (y ∷ xs) x
-contains_more y x xs c = (suc c.0, omega (arith, c.1), c.2)
 
 step_found : (b : Bool) (e : ExactSegment × Colour) (es : List (ExactSegment × Colour)) (s : ExactSegment) (c : Colour) → is_at (segment_cmp s) e.0 ≡ b
     → cond b (Some e.1) (lookup (is_at (segment_cmp s)) es) ≡ Some c → (lookup (is_at (segment_cmp s)) es ≡ Some c → Contains (creases_of es) (record { seg = s; colour = c })) → Contains (creases_of (e ∷ es)) (record { seg = s; colour = c })
@@ -36,7 +34,7 @@ step_found true e es s c t h f =
   where
     pair : (a b : ExactSegment) (k l : Colour) → a ≡ b → k ≡ l → (let x : ExactCrease = record { seg = a; colour = k } in x) ≡ record { seg = b; colour = l }
     pair a b k l p q = λ i. record { seg = p i; colour = q i }
-step_found false e es s c t h f = contains_more (crease_of e) (record { seg = s; colour = c }) (creases_of es) (f h)
+step_found false e es s c t h f = later_has (crease_of e) (record { seg = s; colour = c }) (creases_of es) (f h)
 
 -- what a look-up by a segment finds is the colour of a crease on it
 pub colour_found : (es : List (ExactSegment × Colour)) (s : ExactSegment) (c : Colour) → lookup (is_at (segment_cmp s)) es ≡ Some c → Contains (creases_of es) (record { seg = s; colour = c })

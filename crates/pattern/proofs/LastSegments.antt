@@ -11,7 +11,7 @@ use Rattle.exact.specs.Plane.{ExactPoint, ExactSegment, SamePoint, IsSegment, Be
 use Rattle.sheet.specs.Pattern.{ExactCrease}
 use Rattle.sheet.specs.declared.Colour.{Colour}
 use Rattle.geometry.specs.Meeting.{IsLater, IsEarlier}
-use Rattle.geometry.proofs.PointOrder.{ordered, tied, before_trans, before_same, same_back, same_trans, before_not_itself, before_not_back, before_not_same}
+use Rattle.geometry.proofs.PointOrder.{ordered, tied, before_trans, same_back, same_trans, before_not_itself, before_not_back, before_not_same, before_later}
 use Rattle.geometry.proofs.Segments.{overlapped}
 use Rattle.plane.specs.Order.{point_cmp}
 use Rattle.plane.proofs.Orders.{point_less}
@@ -22,10 +22,10 @@ use Rattle.pattern.specs.Lasts.{HasLasts, IsReached, at_line}
 pub none_at_first : HasLasts (at_line []) []
 none_at_first = record { each = All-nil (λ (f : ExactCrease). IsSegment f.seg × IsReached (at_line []) f.seg); from = λ l t e. cc }
 
-tie : (l m : ExactLine) → l ≡ m → line_cmp l m ≡ o.Equal
+pub tie : (l m : ExactLine) → l ≡ m → line_cmp l m ≡ o.Equal
 tie l m e = subst (λ x. line_cmp l x ≡ o.Equal) e (tied_itself line_total l)
 
-line_or_not : (l m : ExactLine) → (l ≡ m) ⊎ (l ≢ m)
+pub line_or_not : (l m : ExactLine) → (l ≡ m) ⊎ (l ≢ m)
 line_or_not l m = by (line_cmp l m) refl
   where
     by : (r : Ordering) → line_cmp l m ≡ r → (l ≡ m) ⊎ (l ≢ m)
@@ -43,13 +43,6 @@ at_another l m n = by (line_cmp l m) refl
     by o.Less e = ap is_eq e
     by o.Equal e = absurd (n (line_exact l m e))
     by o.Greater e = ap is_eq e
-
--- p is before a, which is not after b
-before_later : (p a b : ExactPoint) → Before p a → ¬ Before b a → Before p b
-before_later p a b h n = elim (ordered a b) [
-  | inl l ↦ before_trans p a b h l
-  | inr k ↦ elim k [ inl s ↦ before_same p a b s h | inr g ↦ absurd (n g) ]
-]
 
 -- t ends where s begins, or before: they have no two common points
 pub ended : (t s : ExactSegment) → ¬ Before s.p t.q → ¬ Overlap t s

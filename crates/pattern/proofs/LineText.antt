@@ -1,5 +1,5 @@
 -- A line of native text is cut in one way into its letter, its two ends and their numbers.
-use Rattle.std.proofs.Common.{◌≡◌, ◌≢◌, ℕ, zero, suc, ◌<◌, ◌≤◌, List, [], ◌∷◌, ◌++◌, length, get_or, drop, refl, sym, ap, subst, ◌∙◌, arith, ◌⊎◌, inl, inr}
+use Rattle.std.proofs.Common.{◌≡◌, ◌≢◌, ℕ, ◌<◌, ◌≤◌, List, [], ◌∷◌, ◌++◌, length, get_or, drop, refl, sym, ap, subst, ◌∙◌, arith, ◌⊎◌, inl, inr}
 use Rattle.std.specs.Prelude.{Contains, Result, Ok, Err}
 use Rattle.std.proofs.lemmas.List.Elements.{Contains-append_cases, Contains-append_right}
 use Rattle.exact.specs.Number.{ExactNumber, IsCanonical}
@@ -16,22 +16,16 @@ use Rattle.qroot2.specs.declared.text.NumText.{NumText}
 use Rattle.qroot2.specs.declared.text.NumText.TheVariants.{Syntax, Range}
 use Rattle.pattern.proofs.Splits.{one_split}
 use Rattle.pattern.proofs.NumberBytes.{IsMark, number_unmarked}
-
-contains_head : (x : ℕ) (xs : List ℕ) → Contains (x ∷ xs) x
-contains_head x xs = (0, omega arith, refl)
-
-contains_one : (x y : ℕ) (xs : List ℕ) → Contains (x ∷ xs) y → (x ≡ y) ⊎ Contains xs y
-contains_one x y xs (zero, h, e) = inl e
-contains_one x y xs (suc k, h, e) = inr (k, omega (arith, h), e)
+use Rattle.pattern.proofs.Members.{first_has, first_or_later}
 
 -- a point's text has a comma, and no space and no line feed
 pub comma_in : (p : ExactPoint) → Contains (point_text p) 44
-comma_in p = Contains-append_right (number_text p.x) (44 ∷ number_text p.y) 44 (contains_head 44 (number_text p.y))
+comma_in p = Contains-append_right (number_text p.x) (44 ∷ number_text p.y) 44 (first_has 44 44 (number_text p.y) refl)
 
 pub point_unmarked : (p : ExactPoint) (b : ℕ) → IsMark b → b ≢ 44 → ¬ Contains (point_text p) b
 point_unmarked p b m n c = elim (Contains-append_cases (number_text p.x) (44 ∷ number_text p.y) b c) [
   | inl h ↦ number_unmarked p.x b m h
-  | inr h ↦ elim (contains_one 44 b (number_text p.y) h) [ inl e ↦ n (sym e) | inr k ↦ number_unmarked p.y b m k ]
+  | inr h ↦ elim (first_or_later 44 b (number_text p.y) h) [ inl e ↦ n (sym e) | inr k ↦ number_unmarked p.y b m k ]
 ]
 
 canonical_within : (x : ExactNumber) → IsCanonical x → IsWithinLimits x
@@ -90,7 +84,7 @@ ends_halves : (p q : ExactPoint) (ends from to : List ℕ) → SplitsAt ends 32 
 ends_halves p q ends from to s e = one_split 32 from to (point_text p) (point_text q) s.first (point_unmarked p 32 (inr (inl refl)) (λ h. omega (arith, h))) (sym s.joined ∙ e)
 
 space_in : (p q : ExactPoint) → Contains (point_text p ++ 32 ∷ point_text q) 32
-space_in p q = Contains-append_right (point_text p) (32 ∷ point_text q) 32 (contains_head 32 (point_text q))
+space_in p q = Contains-append_right (point_text p) (32 ∷ point_text q) 32 (first_has 32 32 (point_text q) refl)
 
 -- no end, no line
 pub unspaced : (line : List ℕ) (first : ℕ) (ends : List ℕ) → line ≡ first ∷ 32 ∷ ends → ¬ Contains ends 32 → IsNoBody line

@@ -7,7 +7,7 @@ use Rattle.std.specs.Ordering.{is_eq, ordering_reverse}
 use Rattle.std.specs.BTreeMap.{BTreeMap, is_at, get, IsOrdered}
 use Rattle.std.specs.Map.{lookup, keys_of}
 use Rattle.std.specs.List.Sorted.{IsStrictlySortedBy}
-use Rattle.std.proofs.lemmas.List.{take_more, get_or-take, length-take}
+use Rattle.std.proofs.lemmas.List.{get_or-take, length-take}
 use Rattle.std.proofs.lemmas.List.Elements.{All-push, All-contains, All-from_recursion, Contains-push, Contains-push_cases, Contains-append_left}
 use Rattle.std.proofs.lemmas.Map.Keys.{sorted_head, sorted_tail, Less-from_sorted}
 use Rattle.std.proofs.lemmas.Map.Entries.{lookup_head, lookup_tail, length-keys_of}
@@ -22,6 +22,7 @@ use Rattle.pattern.specs.Deltas.{Ascends}
 use Rattle.pattern.proofs.Keys.{colour_found}
 use Rattle.pattern.proofs.Fronts.{all_front}
 use Rattle.pattern.proofs.Members.{segment_or_not, tied_segments, first_or_later, segment_not_itself, before_last}
+use Rattle.pattern.proofs.Told.{more_taken}
 
 pub at_or_not : (s t : ExactSegment) → ((is_at (segment_cmp s) t ≡ true) × (s ≡ t)) ⊎ ((is_at (segment_cmp s) t ≡ false) × (s ≢ t))
 at_or_not s t = elim (segment_or_not s t) [ inl e ↦ inl (ap is_eq (tied_segments s t e), e) | inr n ↦ inr (by (segment_cmp s t) refl n, n) ]
@@ -61,7 +62,7 @@ entries_ascend es s h = λ i j d l m.
     (segment_less (get_or (creases_of es) i d).seg (get_or (creases_of es) j d).seg (h i d (omega (arith, l, m))) (h j d m)).0
     (subst (λ x. segment_cmp x (get_or (creases_of es) j d).seg ≡ o.Less) (segment_at es i d) (subst (λ y. segment_cmp (get_or (keys_of es) i d.seg) y ≡ o.Less) (segment_at es j d) less))
 
-none_or_some : {X : Type 0} (r : Option X) (c : X) → r ≡ None → r ≡ Some c → ⊥
+pub none_or_some : {X : Type 0} (r : Option X) (c : X) → r ≡ None → r ≡ Some c → ⊥
 none_or_some r c e f = (let g = sym e ∙ f in cc)
 
 -- after one key is taken out
@@ -101,13 +102,10 @@ put_one m n x om on u f = elim (at_or_not x.seg f.seg) [
     whole : x.seg ≡ f.seg → x.colour ≡ f.colour → x ≡ f
     whole p q = λ i. record { seg = p i; colour = q i }
 
-next_front : (xs : List ExactCrease) (i : ℕ) (x : ExactCrease) → i < length xs → x ≡ get_or xs i x → take i xs ++ x ∷ [] ≡ take (i + 1) xs
-next_front xs i x l e = ap (λ (y : ExactCrease). take i xs ++ y ∷ []) e ∙ sym (take_more xs i x l)
-
 pub taken_next : (before gone : List ExactCrease) (i : ℕ) (x : ExactCrease) (s : ExactSegment) (m n : BTreeMap ExactSegment Colour) → i < length gone → x ≡ get_or gone i x → s ≡ x.seg
     → IsTakenOut before (take i gone) (creases_of m.entries) → IsOrdered segment_cmp m → IsOrdered segment_cmp n → ((q : ExactSegment) → get segment_cmp n q ≡ cond (is_at (segment_cmp s) q) None (get segment_cmp m q))
     → IsTakenOut before (take (i + 1) gone) (creases_of n.entries)
-taken_next before gone i x s m n l e at_x t om on u = subst (λ (xs : List ExactCrease). IsTakenOut before xs (creases_of n.entries)) (next_front gone i x l e) more
+taken_next before gone i x s m n l e at_x t om on u = subst (λ (xs : List ExactCrease). IsTakenOut before xs (creases_of n.entries)) (more_taken gone i x l e) more
   where
     more : IsTakenOut before (take i gone ++ x ∷ []) (creases_of n.entries)
     more f = (
@@ -121,7 +119,7 @@ taken_next before gone i x s m n l e at_x t om on u = subst (λ (xs : List Exact
 pub put_next : (before come : List ExactCrease) (i : ℕ) (x : ExactCrease) (m n : BTreeMap ExactSegment Colour) → i < length come → x ≡ get_or come i x → Ascends (take (i + 1) come)
     → IsPutIn before (take i come) (creases_of m.entries) → IsOrdered segment_cmp m → IsOrdered segment_cmp n → ((q : ExactSegment) → get segment_cmp n q ≡ cond (is_at (segment_cmp x.seg) q) (Some x.colour) (get segment_cmp m q))
     → IsPutIn before (take (i + 1) come) (creases_of n.entries)
-put_next before come i x m n l e up t om on u = subst (λ (xs : List ExactCrease). IsPutIn before xs (creases_of n.entries)) (next_front come i x l e) (more (subst Ascends (sym (next_front come i x l e)) up))
+put_next before come i x m n l e up t om on u = subst (λ (xs : List ExactCrease). IsPutIn before xs (creases_of n.entries)) (more_taken come i x l e) (more (subst Ascends (sym (more_taken come i x l e)) up))
   where
     more : Ascends (take i come ++ x ∷ []) → IsPutIn before (take i come ++ x ∷ []) (creases_of n.entries)
     more a f = (

@@ -1,12 +1,13 @@
 -- Which creases an ascending list has, and that they settle the list.
-use Rattle.std.proofs.Common.{◌≡◌, ◌≢◌, suc, ◌<◌, List, [], ◌∷◌, ◌++◌, length, get_or, refl, sym, subst, ◌∙◌, ◌⊎◌, inl, inr, arith, length-append}
-use Rattle.std.specs.Prelude.{Contains}
+use Rattle.std.proofs.Common.{◌≡◌, ◌≢◌, true, suc, ◌<◌, List, [], ◌∷◌, ◌++◌, length, get_or, refl, sym, subst, ◌∙◌, ◌⊎◌, inl, inr, arith, length-append}
+use Rattle.std.specs.Prelude.{Contains, AllPairs}
 use Rattle.std.specs.declared.cmp.Ordering.{Ordering}
 use Rattle.std.specs.declared.cmp.Ordering.TheVariants as o
 use Rattle.std.proofs.lemmas.Bool.{cases_order}
 use Rattle.std.proofs.lemmas.Cmp.{tied_itself}
 use Rattle.std.proofs.lemmas.List.{get_or_append_left, get_or_push, get_or_default}
 use Rattle.std.proofs.lemmas.List.Elements.{Contains-append_cases, Contains-push_cases}
+use denote.Enum.Bare.{sameb}
 use Rattle.exact.specs.Plane.{ExactSegment, SegmentBefore}
 use Rattle.geometry.proofs.PointOrder.{before_not_itself}
 use Rattle.plane.specs.Order.{segment_cmp}
@@ -14,6 +15,7 @@ use Rattle.plane.proofs.Orders.{segment_exact, segment_total}
 use Rattle.sheet.specs.Pattern.{ExactCrease}
 use Rattle.sheet.specs.declared.Colour.{Colour}
 use Rattle.sheet.specs.declared.Colour.TheVariants as colour
+use Rattle.sheet.specs.contracts.Colour.{the_type}
 use Rattle.pattern.specs.Deltas.{Ascends}
 use Rattle.pattern.proofs.Appending.{segment_before_trans}
 
@@ -27,6 +29,11 @@ colour_or_not colour.V colour.A = inr (λ e. cc)
 colour_or_not colour.A colour.M = inr (λ e. cc)
 colour_or_not colour.A colour.V = inr (λ e. cc)
 colour_or_not colour.A colour.A = inl refl
+
+pub colour_itself : (c : Colour) → sameb the_type c c ≡ true
+colour_itself colour.M = refl
+colour_itself colour.V = refl
+colour_itself colour.A = refl
 
 pub tied_segments : (s t : ExactSegment) → s ≡ t → segment_cmp s t ≡ o.Equal
 tied_segments s t e = subst (λ x. segment_cmp s x ≡ o.Equal) e (tied_itself segment_total s)
@@ -48,10 +55,13 @@ crease_or_not f g = elim (segment_or_not f.seg g.seg) [
   | inl s ↦ elim (colour_or_not f.colour g.colour) [ inl c ↦ inl (crease_same f g s c) | inr n ↦ inr (λ e. n (λ i. (e i).colour)) ]
 ]
 
-pub later_has : (x f : ExactCrease) (xs : List ExactCrease) → Contains xs f → Contains (x ∷ xs) f
+pub first_has : {X : Type 0} (x f : X) (xs : List X) → x ≡ f → Contains (x ∷ xs) f
+first_has x f xs e = (0, omega arith, e)
+
+pub later_has : {X : Type 0} (x f : X) (xs : List X) → Contains xs f → Contains (x ∷ xs) f
 later_has x f xs c = (suc c.0, omega (arith, c.1), c.2)
 
-pub first_or_later : (x f : ExactCrease) (xs : List ExactCrease) → Contains (x ∷ xs) f → (x ≡ f) ⊎ Contains xs f
+pub first_or_later : {X : Type 0} (x f : X) (xs : List X) → Contains (x ∷ xs) f → (x ≡ f) ⊎ Contains xs f
 first_or_later x f xs c = elim (Contains-append_cases (x ∷ []) xs f c) [
   | inr k ↦ inr k
   | inl k ↦ elim (Contains-push_cases [] x f k) [ inl n ↦ absurd (omega (arith, n.1)) | inr e ↦ inl e ]
@@ -70,10 +80,12 @@ segment_not_itself s t e b = elim (subst (λ x. SegmentBefore x t) e b) [ inl p 
 pub segment_not_back : (s t : ExactSegment) → SegmentBefore s t → SegmentBefore t s → ⊥
 segment_not_back s t b c = segment_not_itself s s refl (segment_before_trans s t s b c)
 
+-- two members of a list, by their places
+pub pair_at : {X : Type 0} (R : X → X → Type 0) (xs : List X) (f g : X) → AllPairs R xs → (a : Contains xs f) (b : Contains xs g) → a.0 < b.0 → R f g
+pair_at R xs f g h a b l = subst (λ x. R x g) a.2 (subst (R (get_or xs a.0 f)) (get_or_default xs b.0 f g b.1 ∙ b.2) (h a.0 b.0 f l b.1))
+
 pub before_at : (xs : List ExactCrease) (f g : ExactCrease) → Ascends xs → (a : Contains xs f) (b : Contains xs g) → a.0 < b.0 → SegmentBefore f.seg g.seg
-before_at xs f g h a b l =
-    subst (λ (x : ExactCrease). SegmentBefore x.seg g.seg) a.2
-    (subst (λ (y : ExactCrease). SegmentBefore (get_or xs a.0 f).seg y.seg) (get_or_default xs b.0 f g b.1 ∙ b.2) (h a.0 b.0 f l b.1))
+before_at = pair_at (λ (x : ExactCrease) (y : ExactCrease). SegmentBefore x.seg y.seg)
 
 -- an ascending list has at most one crease on a segment
 pub one_on_segment : (xs : List ExactCrease) (f g : ExactCrease) → Ascends xs → Contains xs f → Contains xs g → f.seg ≡ g.seg → f ≡ g

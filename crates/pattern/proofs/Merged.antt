@@ -12,7 +12,7 @@ use Rattle.plane.proofs.Orders.{segment_exact, segment_total, segment_less}
 use Rattle.sheet.specs.Pattern.{ExactCrease}
 use Rattle.pattern.specs.Deltas.{Ascends}
 use Rattle.pattern.proofs.Appending.{segment_before_trans}
-use Rattle.pattern.proofs.Members.{later_has, first_or_later, first_before, later_ascend, segment_not_itself, segment_not_back}
+use Rattle.pattern.proofs.Members.{later_has, first_or_later, first_before, later_ascend, segment_not_itself, segment_not_back, first_has}
 
 -- of two segments one is before the other, or they are one
 pub segments_ordered : (s t : ExactSegment) → HasCanonicalEnds s → HasCanonicalEnds t → SegmentBefore s t ⊎ ((s ≡ t) ⊎ SegmentBefore t s)
@@ -30,9 +30,6 @@ ascend_first x xs h b = go
     go i zero d l m = absurd (omega (arith, l))
     go zero (suc j) d l m = b (get_or xs j d) (Contains-get_or xs j d (omega (arith, m)))
     go (suc i) (suc j) d l m = h i j d (omega (arith, l)) (omega (arith, m))
-
-first_has : (x f : ExactCrease) (xs : List ExactCrease) → x ≡ f → Contains (x ∷ xs) f
-first_has x f xs e = (0, omega arith, e)
 
 record IsPut (x : ExactCrease) (xs ys : List ExactCrease) : Type 0 where
   ascends : Ascends ys

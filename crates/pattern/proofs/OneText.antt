@@ -3,11 +3,11 @@ use Rattle.std.proofs.Common.{◌≡◌, ◌≢◌, ℕ, List, [], ◌∷◌, �
 use Rattle.std.specs.Prelude.{All}
 use Rattle.std.proofs.lemmas.List.{append_cancel_left}
 use Rattle.std.proofs.lemmas.List.Elements.{All-head, All-tail}
-use Rattle.exact.specs.Number.{ExactNumber}
 use Rattle.exact.specs.Plane.{ExactPoint}
 use Rattle.qroot2.specs.Text.{number_text}
 use Rattle.qroot2.proofs.OneText.{text_injective}
 use Rattle.plane.specs.PointText.{point_text}
+use Rattle.plane.proofs.Orders.{point_made}
 use Rattle.sheet.specs.Pattern.{ExactCrease, IsPattern, IsKey}
 use Rattle.sheet.specs.declared.Colour.{Colour}
 use Rattle.sheet.specs.declared.Colour.TheVariants as colour
@@ -31,13 +31,10 @@ letter_of_one colour.A colour.V e = absurd (omega (arith, e))
 letter_of_one colour.A colour.A e = refl
 
 point_of_one : (p u : ExactPoint) → IsPointSpelled p → IsPointSpelled u → point_text p ≡ point_text u → p ≡ u
-point_of_one p u s t e = made p.x u.x p.y u.y (text_injective p.x u.x s.x.some t.x.some halves.0) (text_injective p.y u.y s.y.some t.y.some halves.1)
+point_of_one p u s t e = point_made p.x u.x p.y u.y (text_injective p.x u.x s.x.some t.x.some halves.0) (text_injective p.y u.y s.y.some t.y.some halves.1)
   where
     halves : (number_text p.x ≡ number_text u.x) × (number_text p.y ≡ number_text u.y)
     halves = one_split 44 (number_text p.x) (number_text p.y) (number_text u.x) (number_text u.y) (number_unmarked p.x 44 (inr (inr refl))) (number_unmarked u.x 44 (inr (inr refl))) e
-
-    made : (x x' y y' : ExactNumber) → x ≡ x' → y ≡ y' → (let z : ExactPoint = record { x = x; y = y } in z) ≡ record { x = x'; y = y' }
-    made x x' y y' f g = cc
 
 -- two lines at the front of one list
 pub record OneLine (c d : Colour) (p q u v : ExactPoint) (after behind : List ℕ) : Type 0 where

@@ -1,19 +1,12 @@
 -- What the tests of a line say together.
-use Rattle.std.proofs.Common.{◌≡◌, Bool, true, false, sym, ◌∙◌, inl, inr, subst, refl, IsTrue}
-use Rattle.std.specs.Prelude.{◌↔◌, Err, Ok, Result, Option, Some, None, IfSome, IsNone, IfOk}
+use Rattle.std.proofs.Common.{◌≡◌, sym, inl, inr, subst, refl}
+use Rattle.std.specs.Prelude.{Err, Ok, Result, Option, Some, None, IfSome, IsNone, IfOk}
 use Rattle.std.specs.Result.{result_ok}
-use Rattle.std.proofs.lemmas.Bool.{false≢true}
 use Rattle.exact.specs.Plane.{ExactPoint, ExactSegment, IsSegment, Before}
 use Rattle.geometry.proofs.PointOrder.{before_not_back, before_not_itself}
 use Rattle.plane.specs.Segments.{HasEnds}
 use Rattle.plane.specs.declared.segment.SegBad.{SegBad}
 use Rattle.plane.specs.declared.segment.SegBad.TheVariants as bad
-
-pub refuted : {P : Type 0} (b : Bool) → b ≡ false → IsTrue b ↔ P → ¬ P
-refuted b e h p = false≢true (sym e ∙ h.1 p)
-
-pub shown : {P : Type 0} (b : Bool) → b ≡ true → IsTrue b ↔ P → P
-shown b e h = h.0 e
 
 pair : (s : ExactSegment) (p q : ExactPoint) → s.p ≡ p → s.q ≡ q → s ≡ record { p = p; q = q }
 pair s p q e f = λ i. record { p = e i; q = f i }
@@ -38,6 +31,3 @@ segment_told o r p q e h = subst (λ (x : Option ExactSegment). IfSome x (λ s. 
 pub is_none : (o : Option ExactSegment) → IsNone o → o ≡ None
 is_none None h = refl
 is_none (Some s) h = cc
-
-pub both_told : (P Q : Type 0) (a b : Bool) → IsTrue a ↔ P → a ≡ true → IsTrue b ↔ Q → IsTrue b ↔ (P × Q)
-both_told P Q a b h e k = (λ t. (h.0 e, k.0 t), λ x. k.1 x.1)

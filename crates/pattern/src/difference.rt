@@ -1,5 +1,6 @@
 //! The delta between two patterns.
 ghost use Rattle.std.specs.Prelude.{IfOk};
+ghost use Rattle.sheet.specs.Pattern.{IsPattern};
 ghost use Rattle.pattern.specs.Deltas.{Fits, Leads, IsBetween, IsWithout};
 
 use crate::{Crease, Delta, Pattern};
@@ -17,8 +18,6 @@ pub fn between(alloc: Global, old: &Pattern, new: &Pattern) -> Result<Delta, NoM
     ensures fits { IfOk result (Fits old.now) }
     ensures leads { IfOk result (λ delta. Leads old.now delta new.now) }
 {
-    let _old = old.len();
-    let _new = new.len();
     Ok(Delta {
         removed: without(alloc, old, new)?,
         added: without(alloc, new, old)?,
@@ -27,7 +26,8 @@ pub fn between(alloc: Global, old: &Pattern, new: &Pattern) -> Result<Delta, NoM
 
 /// The creases of a pattern that are not in another one.
 fn without(alloc: Global, pattern: &Pattern, other: &Pattern) -> Result<Listed<Crease>, NoMemory>
-    ensures { IfOk result (IsWithout pattern.now other.now) }
+    ensures only { IfOk result (IsWithout pattern.now other.now) }
+    ensures pattern { IsPattern pattern.now }
 {
     let mut only = Vec::new(alloc);
     for crease in pattern.creases() {

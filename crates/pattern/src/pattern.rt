@@ -55,15 +55,15 @@ impl Pattern {
     pub fn colour(&self, seg: &Seg) -> Option<Colour>
         ensures some { IfSome result (λ colour. Contains self.now (record { seg = seg.now; colour = colour })) }
         ensures none { IsNone result → IsUncreased self.now seg.now }
+        ensures pattern { IsPattern self.now }
     {
         self.creases.get(seg).copied()
     }
 
     /// Whether this crease, with its colour, is in the pattern.
-    pub(crate) fn has(&self, crease: &Crease) -> bool
+    pub fn has(&self, crease: &Crease) -> bool
         ensures { IsTrue result ↔ Contains self.now crease.now }
     {
-        let _len = self.len();
         match self.colour(&crease.seg) {
             Some(colour) => colour == crease.colour,
             None => false,
@@ -84,7 +84,8 @@ impl Pattern {
     ///
     /// `NoMemory` where memory for the creases runs out.
     pub fn copy(&self, alloc: Global) -> Result<Pattern, NoMemory>
-        ensures { IfOk result (λ pattern. pattern ≡ self.now) }
+        ensures same { IfOk result (λ pattern. pattern ≡ self.now) }
+        ensures pattern { IsPattern self.now }
     {
         let mut pattern = Pattern::empty(alloc);
         for crease in self.creases() {
@@ -102,7 +103,6 @@ impl Pattern {
         requires { Fits self.now delta.now }
         ensures { IfOk result (Leads self.now delta.now) }
     {
-        let _len = self.len();
         let mut creases = self.copy(alloc)?.creases;
         take_out(&mut creases, delta.removed.as_slice());
         put_in(&mut creases, delta.added.as_slice())?;

@@ -5,6 +5,7 @@ use Rattle.exact.specs.Number.{ExactNumber, Same, IsCanonical, IsRepresentable, 
 use Rattle.exact.specs.Plane.{ExactPoint, SamePoint, IsPointRepresentable, vector, turn}
 use Rattle.exact.proofs.Ring.{is_add, is_neg, is_lit, is_atom, is_mul, is_eq}
 use Rattle.exact.proofs.Unique.{same_trans}
+use Rattle.exact.proofs.Told.{same_itself}
 use Rattle.std.proofs.lemmas.Int.{ints, unsigned_abs-mul}
 use Rattle.std.proofs.lemmas.Nat.{mul-le}
 use borrow.Author.Tests.{ltb-true}
@@ -102,11 +103,8 @@ crossing_on k j p l c h i n s = solution (vector k) (vector j) p l c (not_parall
       ∙ ap (times (dn c.y)) (rw (lift_is j l p, lift_is k p l) refl);
 })
 
-pub same_self : (x : ExactNumber) → Same x x
-same_self x = record { a = refl; b = refl }
-
 pub crossing_itself : (k j : ℕ) (p l : ExactPoint) → k < 16 → j < 16 → k % 8 ≢ j % 8 → On (vector k) p (crossing k j p l) × On (vector j) l (crossing k j p l)
-crossing_itself k j p l h i n = crossing_on k j p l (crossing k j p l) h i n (record { x = same_self (crossing k j p l).x; y = same_self (crossing k j p l).y })
+crossing_itself k j p l h i n = crossing_on k j p l (crossing k j p l) h i n (record { x = same_itself (crossing k j p l).x; y = same_itself (crossing k j p l).y })
 
 -- and no other point is
 pub crossing_only : (k j : ℕ) (p l c : ExactPoint) → k < 16 → j < 16 → k % 8 ≢ j % 8 → On (vector k) p c → On (vector j) l c → SamePoint c (crossing k j p l)

@@ -3,6 +3,7 @@ use Rattle.std.proofs.Common.{◌≡◌, ◌≢◌, ℕ, ◌+◌, ◌*◌, ◌%�
 use Rattle.std.specs.Prelude.{ℤ, pos, negsuc, ◌+ℤ◌, unsigned_abs, Option, Some, None, IfNone}
 use Rattle.std.specs.Int.{cast_signed, cast_unsigned, w128}
 use Rattle.std.proofs.lemmas.Int.{ints}
+use Rattle.exact.proofs.Told.{same_itself}
 use Rattle.qroot2.specs.Wide.{Pair, pair_number, pair_add, pair_neg}
 use Rattle.plane.specs.Ways.{root}
 use Rattle.plane.proofs.Passed.{passed_as, sum_size}
@@ -14,7 +15,7 @@ use Rattle.geometry.specs.Root.{Root, plus, times, minus, count, size, Above}
 use Rattle.geometry.specs.Gap.{num, dn, gx, gy, cross}
 use Rattle.geometry.proofs.RootRing.{both, plus_comm, plus_zero, plus_minus, times_comm, cancel_plus}
 use Rattle.geometry.proofs.Solve.{at, one, add, mul, opp, solve, times_zero, zero_plus}
-use Rattle.geometry.proofs.Gap.{num_sub, dn_sub, dn_mul, same_num, num_same, out_right, count_product}
+use Rattle.geometry.proofs.Gap.{difference_none, none_difference, num_sub, dn_sub, dn_mul, same_num, num_same, out_right, count_product}
 use Rattle.geometry.proofs.Lines.{On, on_from, on_back, on_trans, on_same, one_point, weight, weight_above, chain}
 use Rattle.geometry.proofs.Directions.{all_below, all_below_at, not_parallel, vector_whole}
 use Rattle.geometry.proofs.Found.{turn_cross, turn_on}
@@ -30,11 +31,9 @@ abbrev pub aside : ℕ → ℕ
 aside k = (k + 4) % 16
 
 -- equal products with a number above zero
-cancel_times : (x y z : Root) → Above z → times x z ≡ times y z → x ≡ y
-cancel_times x y z h e =
-    cancel_plus x y (minus y) (
-    out_right (plus x (minus y)) z h (solve (x ∷ y ∷ z ∷ []) (mul (add (at 0) (opp (at 1))) (at 2)) (add (mul (at 0) (at 2)) (opp (mul (at 1) (at 2)))) refl ∙ ap (λ t. plus t (minus (times y z))) e ∙ plus_minus (times y z))
-    ∙ sym (plus_minus y))
+pub cancel_times : (x y z : Root) → Above z → times x z ≡ times y z → x ≡ y
+cancel_times x y z h e = difference_none x y (out_right _ z h (
+    solve (x ∷ y ∷ z ∷ []) (mul (add (at 0) (opp (at 1))) (at 2)) (add (mul (at 0) (at 2)) (opp (mul (at 1) (at 2)))) refl ∙ none_difference _ _ e))
 
 -- two points equally far aside, seen from a third one
 gap_same : (u a q r : ExactPoint) → times (cross u a q) (weight r) ≡ times (cross u a r) (weight q) → On u q r
@@ -103,7 +102,7 @@ both_opposite k a p q r s t = gap_same (vector k) a q r (cancel_times _ _ (weigh
     ∙ ap (λ z. times z (weight q)) (sym t.is)
     ∙ solve (cross (vector k) a r ∷ weight p ∷ weight q ∷ []) (mul (mul (at 0) (at 1)) (at 2)) (mul (mul (at 0) (at 2)) (at 1)) refl))
 
-not_along : (k : ℕ) → k < 16 → k % 8 ≢ aside k % 8
+pub not_along : (k : ℕ) → k < 16 → k % 8 ≢ aside k % 8
 not_along k h e = omega arith
 
 aside_small : (k : ℕ) → aside k < 16
@@ -139,7 +138,8 @@ aside_tested : all_below 16 aside_test ≡ true
 unfolding aside_test num minus plus
 aside_tested = refl
 
-no_size : (x : Root) → size x ≡ 0 → x ≡ count 0
+-- only zero has no size
+pub no_size : (x : Root) → size x ≡ 0 → x ≡ count 0
 unfolding count
 no_size x e = both x (count 0) (abs_zero x.a (omega arith)) (abs_zero x.b (omega arith))
   where
@@ -153,14 +153,11 @@ tested m n e = (grind (arith, nat_tests), grind (arith, nat_tests))
 none_minus : (x y : Root) → plus x y ≡ count 0 → x ≡ minus y
 none_minus x y e = cancel_plus x (minus y) y (e ∙ sym (plus_comm (minus y) y ∙ plus_minus y))
 
-none_same : (x y : Root) → plus x (minus y) ≡ count 0 → x ≡ y
-none_same x y e = cancel_plus x y (minus y) (e ∙ sym (plus_minus y))
-
 pub aside_vector : (k : ℕ) → k < 16 → (num (vector (aside k)).x ≡ minus (num (vector k).y)) × (num (vector (aside k)).y ≡ num (vector k).x)
 unfolding aside_test
 aside_vector k h =
     let t = tested (size (plus (num (vector (aside k)).x) (num (vector k).y))) (size (plus (num (vector (aside k)).y) (minus (num (vector k).x)))) (all_below_at 16 aside_test aside_tested k h) in
-    (none_minus _ _ (no_size _ t.0), none_same _ _ (no_size _ t.1))
+    (none_minus _ _ (no_size _ t.0), difference_none _ _ (no_size _ t.1))
 
 -- The image as the code makes it: from a point of the line, by the numerators of the turned way.
 abbrev pub image_of : ExactPoint → ExactPoint → Root → Root → ExactPoint
@@ -298,7 +295,7 @@ double_tested = refl
 turned_from : (k : ℕ) (c t : Root) → turned_test k c t ≡ true → AreTurned k c t
 turned_from k c t e =
     let z = tested _ _ e in
-    record { along = none_same _ _ (no_size _ z.0); across = none_same _ _ (no_size _ z.1) }
+    record { along = difference_none _ _ (no_size _ z.0); across = difference_none _ _ (no_size _ z.1) }
 
 when_even : (m : ℕ) (x y : Bool) → m ≡ 0 → cond (eqb m 0) x y ≡ true → x ≡ true
 when_even m x y e t = grind (arith, nat_tests)
@@ -361,7 +358,7 @@ none_imaged k a p r h i n q j x = (let s = image_only k a p q r h j i in elim n 
 ])
 
 pub image_self : (k : ℕ) (a p : ExactPoint) (c t : Root) → k < 16 → AreTurned k c t → IsImage a k p (image_of a p (turned_x c t (gx a p) (gy a p)) (turned_y c t (gx a p) (gy a p)))
-image_self k a p c t h r = (let q = image_of a p (turned_x c t (gx a p) (gy a p)) (turned_y c t (gx a p) (gy a p)) in image_made k a p q c t h r (record { x = crossed.same_self q.x; y = crossed.same_self q.y }))
+image_self k a p c t h r = (let q = image_of a p (turned_x c t (gx a p) (gy a p)) (turned_y c t (gx a p) (gy a p)) in image_made k a p q c t h r (record { x = same_itself q.x; y = same_itself q.y }))
 
 even_test : ℕ → Bool
 even_test k = cond (eqb (k % 2) 0) (cond (ltb (size (times (count 2) (num (vector ((k + k) % 16)).x))) 3) (ltb (size (times (count 2) (num (vector ((k + k) % 16)).y))) 3) false) true

@@ -6,6 +6,7 @@ pub mod Turns
 pub mod Found
 pub mod Ends
 pub mod SheetSides
+pub mod SidesMade
 pub mod Orders
 pub mod Supports
 pub mod Places

@@ -1,7 +1,6 @@
 -- What two segments have in common, from what the code of `meet` tests.
 use Rattle.std.proofs.Common.{◌≡◌, ◌≢◌, ℕ, ◌%◌, ◌<◌, refl, sym, ap, subst, ◌∙◌, ◌⊎◌, inl, inr, Bool, IsTrue}
 use Rattle.std.specs.Prelude.{◌↔◌, neg_ℤ}
-use Rattle.exact.specs.Number.{ExactNumber}
 use Rattle.exact.specs.Plane.{ExactPoint, ExactSegment, Before, DirOf, IsSegment, OnSeg, OnBoth, Cross, IsPointRepresentable, vector}
 use Rattle.geometry.specs.Root.{Root, minus, count, Above}
 use Rattle.geometry.specs.Gap.{cross}
@@ -24,6 +23,7 @@ use Rattle.plane.specs.declared.outcome.Meet.TheVariants as meet
 use Rattle.plane.specs.Meets.{Meets, AreCollinear}
 use Rattle.plane.proofs.Crossed.{crossing, crossing_itself}
 use Rattle.plane.proofs.Turns.{side_cross}
+use Rattle.plane.proofs.Orders.{point_made}
 
 -- the ends of s and t, and the later and the earlier ones
 pub record AreEnds (s t : ExactSegment) (lo hi : ExactPoint) : Type 0 where
@@ -65,10 +65,7 @@ pub across_at : (s t : ExactSegment) (a b at : ExactPoint) → a ≡ t.p → b �
 across_at s t a b at p q e f g h k = subst (λ z. Cross s t z) (sym is) (plain_cross s t f g (subst (λ z. ¬ Before z s.p) is h.0) (subst (λ z. ¬ Before s.q z) is h.1) (subst (λ z. ¬ Before z t.p) is k.0) (subst (λ z. ¬ Before t.q z) is k.1))
   where
     is : at ≡ corner_of s t
-    is = e ∙ made a.x t.p.x b.y s.p.y (ap (λ (z : ExactPoint). z.x) p) (ap (λ (z : ExactPoint). z.y) q)
-      where
-        made : (x x' y y' : ExactNumber) → x ≡ x' → y ≡ y' → (let z : ExactPoint = record { x = x; y = y } in z) ≡ record { x = x'; y = y' }
-        made x x' y y' f g = cc
+    is = e ∙ point_made a.x t.p.x b.y s.p.y (ap (λ (z : ExactPoint). z.x) p) (ap (λ (z : ExactPoint). z.y) q)
 
 pub across_none : (s t : ExactSegment) (a b at : ExactPoint) → a ≡ t.p → b ≡ s.p → (let c : ExactPoint = record { x = a.x; y = b.y } in at ≡ c) → Along s 0 → Along t 4
     → (¬ ((¬ Before at s.p) × (¬ Before s.q at))) ⊎ (¬ ((¬ Before at t.p) × (¬ Before t.q at))) → (r : ExactPoint) → ¬ OnBoth r s t
@@ -78,10 +75,7 @@ across_none s t a b at p q e f g n r x = (let y = plain_between s t r f g x in e
 ])
   where
     is : at ≡ corner_of s t
-    is = e ∙ made a.x t.p.x b.y s.p.y (ap (λ (z : ExactPoint). z.x) p) (ap (λ (z : ExactPoint). z.y) q)
-      where
-        made : (x x' y y' : ExactNumber) → x ≡ x' → y ≡ y' → (let z : ExactPoint = record { x = x; y = y } in z) ≡ record { x = x'; y = y' }
-        made x x' y y' f g = cc
+    is = e ∙ point_made a.x t.p.x b.y s.p.y (ap (λ (z : ExactPoint). z.x) p) (ap (λ (z : ExactPoint). z.y) q)
 
 -- the order of the two segments does not matter
 pub meets_back : (s t : ExactSegment) (m : Meet) → Meets t s m → Meets s t m
@@ -113,7 +107,7 @@ unfolding count minus
 zero_not_below f h a = above_not_zero (subst Above (both (minus f) (count 0) (ap neg_ℤ h.0) (ap neg_ℤ h.1)) a)
 
 -- the sides of both ends
-signs_told : (f g : Root) (s t : Sign) → HasSign f.a f.b s → HasSign g.a g.b t → IsOneSide s t ↔ SameSide f g
+pub signs_told : (f g : Root) (s t : Sign) → HasSign f.a f.b s → HasSign g.a g.b t → IsOneSide s t ↔ SameSide f g
 unfolding minus
 signs_told f g sign.Minus sign.Minus h k = (λ u. inr (h, k), λ x. tt)
 signs_told f g sign.Minus sign.Zero h k = (λ u. absurd u, λ x. elim x [ inl y ↦ above_not_minus f y.0 h | inr y ↦ zero_not_below g k y.1 ])

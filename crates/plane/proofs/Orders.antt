@@ -21,11 +21,12 @@ point_total = then_total (on_total (λ p. p.x) num_total) (on_total (λ p. p.y) 
 pub segment_total : IsTotalOrder segment_cmp
 segment_total = then_total (on_total (λ s. s.p) point_total) (on_total (λ s. s.q) point_total)
 
+-- points with the same coordinates are one
+pub point_made : (x x' y y' : ExactNumber) → x ≡ x' → y ≡ y' → (let z : ExactPoint = record { x = x; y = y } in z) ≡ record { x = x'; y = y' }
+point_made x x' y y' f g = cc
+
 pub point_exact : (p q : ExactPoint) → point_cmp p q ≡ o.Equal → p ≡ q
-point_exact p q e = (let f = first_equal (num_cmp p.x q.x) (num_cmp p.y q.y) e in made p.x q.x p.y q.y (num_exact p.x q.x f.0) (num_exact p.y q.y f.1))
-  where
-    made : (x x' y y' : ExactNumber) → x ≡ x' → y ≡ y' → (let z : ExactPoint = record { x = x; y = y } in z) ≡ record { x = x'; y = y' }
-    made x x' y y' f g = cc
+point_exact p q e = (let f = first_equal (num_cmp p.x q.x) (num_cmp p.y q.y) e in point_made p.x q.x p.y q.y (num_exact p.x q.x f.0) (num_exact p.y q.y f.1))
 
 pub segment_exact : (s t : ExactSegment) → segment_cmp s t ≡ o.Equal → s ≡ t
 segment_exact s t e = (let f = first_equal (point_cmp s.p t.p) (point_cmp s.q t.q) e in made s.p t.p s.q t.q (point_exact s.p t.p f.0) (point_exact s.q t.q f.1))
@@ -35,10 +36,7 @@ segment_exact s t e = (let f = first_equal (point_cmp s.p t.p) (point_cmp s.q t.
 
 -- two canonical points that are one are equal
 pub point_unique : (p q : ExactPoint) → IsPointCanonical p → IsPointCanonical q → SamePoint p q → p ≡ q
-point_unique p q c d s = made p.x q.x p.y q.y (unique p.x q.x c.0 d.0 s.x) (unique p.y q.y c.1 d.1 s.y)
-  where
-    made : (x x' y y' : ExactNumber) → x ≡ x' → y ≡ y' → (let z : ExactPoint = record { x = x; y = y } in z) ≡ record { x = x'; y = y' }
-    made x x' y y' f g = cc
+point_unique p q c d s = point_made p.x q.x p.y q.y (unique p.x q.x c.0 d.0 s.x) (unique p.y q.y c.1 d.1 s.y)
 
 pub point_values : (p q : ExactPoint) → IsPointCanonical p → IsPointCanonical q → point_cmp p q ≡ point_real_cmp p q
 point_values p q c d = ap (λ r. ordering_then r (num_cmp p.y q.y)) (values_decide p.x q.x c.0 d.0) ∙ ap (ordering_then (real_cmp p.x q.x)) (values_decide p.y q.y c.1 d.1)

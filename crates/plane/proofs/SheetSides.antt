@@ -5,7 +5,8 @@ use Rattle.std.proofs.lemmas.Int.{ints}
 use Rattle.exact.specs.Number.{ExactNumber, Same, Less, AtMost, Positive, whole, den}
 use Rattle.exact.specs.Plane.{ExactPoint, ExactSegment, IsSegment, OnSeg}
 use Rattle.exact.proofs.Ring.{is_sub, is_neg, is_lit, is_atom, is_mul, is_eq}
-use Rattle.exact.proofs.Order.{linear, real_less, real_equal, real_total, less_of}
+use Rattle.exact.proofs.Order.{linear, real_less, real_equal, real_total, less_of, same_turned}
+use Rattle.exact.proofs.Told.{same_itself, same_on}
 use Rattle.geometry.specs.Meeting.{Along}
 use Rattle.geometry.proofs.Plain.{flat_on, upright_on}
 use Rattle.geometry.proofs.Segments.{on_line, on_seg, end_p, end_q, covered}
@@ -15,14 +16,8 @@ use Rattle.geometry.proofs.PointOrder.{less_not_same, less_not_back}
 use Rattle.plane.specs.Corners.{IsEnd, AreOnSide}
 use Rattle.sheet.specs.Sheet.{sides, corner, InSheet, OnSide, OnBorder, IsWithin}
 
-zero_less_one : Less (whole 0) (whole 1)
+pub zero_less_one : Less (whole 0) (whole 1)
 zero_less_one = inl (omega (arith, ints), omega (arith, ints), omega (arith, ints))
-
-same_self : (x : ExactNumber) → Same x x
-same_self x = record { a = refl; b = refl }
-
-flipped : (x y : ExactNumber) → Same x y → Same y x
-flipped x y s = record { a = sym s.a; b = sym s.b }
 
 same_less : (x y z : ExactNumber) → Same x y → Less x z → Less y z
 same_less x y z s h = less_of y z (sym (real_total.congr x y z (real_equal x y s)) ∙ real_less x z h)
@@ -35,7 +30,7 @@ zero_within : (x : ExactNumber) → Same (whole 0) x → IsWithin x
 zero_within x s = (inl s, inr (same_less (whole 0) x (whole 1) s zero_less_one))
 
 one_within : (x : ExactNumber) → Same (whole 1) x → IsWithin x
-one_within x s = (not_less (whole 0) x (λ h. less_not_back (whole 0) (whole 1) zero_less_one (same_less x (whole 1) (whole 0) (flipped (whole 1) x s) h)), inl (flipped (whole 1) x s))
+one_within x s = (not_less (whole 0) x (λ h. less_not_back (whole 0) (whole 1) zero_less_one (same_less x (whole 1) (whole 0) (same_turned (whole 1) x s) h)), inl (same_turned (whole 1) x s))
 
 end_within : (x : ExactNumber) → IsEnd x → IsWithin x
 end_within x h = elim h [ inl s ↦ zero_within x s | inr s ↦ one_within x s ]
@@ -49,36 +44,36 @@ flat i = record { p = corner 0 i; q = corner 1 i }
 
 upright_along : (i : ℕ) → Along (upright i) 4
 unfolding upright
-upright_along i = on_along (record { p = corner i 0; q = corner i 1 }) 4 (omega arith) (vector_ahead 4 (omega arith) (inl (omega arith))) (inr (same_self (whole i), zero_less_one)) ((upright_on (corner i 0) (corner i 1)).0 (same_self (whole i)))
+upright_along i = on_along (record { p = corner i 0; q = corner i 1 }) 4 (omega arith) (vector_ahead 4 (omega arith) (inl (omega arith))) (inr (same_itself (whole i), zero_less_one)) ((upright_on (corner i 0) (corner i 1)).0 (same_itself (whole i)))
 
 flat_along : (i : ℕ) → Along (flat i) 0
 unfolding flat
-flat_along i = on_along (record { p = corner 0 i; q = corner 1 i }) 0 (omega arith) (vector_ahead 0 (omega arith) (inl (omega arith))) (inl zero_less_one) ((flat_on (corner 0 i) (corner 1 i)).0 (same_self (whole i)))
+flat_along i = on_along (record { p = corner 0 i; q = corner 1 i }) 0 (omega arith) (vector_ahead 0 (omega arith) (inl (omega arith))) (inl zero_less_one) ((flat_on (corner 0 i) (corner 1 i)).0 (same_itself (whole i)))
 
 at_least : (x : ExactNumber) → IsWithin x → Less x (whole 0) → ⊥
-at_least x w h = elim w.0 [ inl s ↦ less_not_same x (whole 0) h (flipped (whole 0) x s) | inr l ↦ less_not_back x (whole 0) h l ]
+at_least x w h = elim w.0 [ inl s ↦ less_not_same x (whole 0) h (same_turned (whole 0) x s) | inr l ↦ less_not_back x (whole 0) h l ]
 
 at_most : (x : ExactNumber) → IsWithin x → Less (whole 1) x → ⊥
-at_most x w h = elim w.1 [ inl s ↦ less_not_same (whole 1) x h (flipped x (whole 1) s) | inr l ↦ less_not_back (whole 1) x h l ]
+at_most x w h = elim w.1 [ inl s ↦ less_not_same (whole 1) x h (same_turned x (whole 1) s) | inr l ↦ less_not_back (whole 1) x h l ]
 
 -- the points of a side
 on_upright : (i : ℕ) (r : ExactPoint) → Same (whole i) r.x → IsWithin r.y → OnSeg r (upright i)
 unfolding upright
 on_upright i r s w = on_seg (upright i) 4 r (upright_along i) ((upright_on (corner i 0) r).0 s)
-    (λ b. elim b [ inl l ↦ less_not_same r.x (whole i) l (flipped (whole i) r.x s) | inr k ↦ at_least r.y w k.1 ])
+    (λ b. elim b [ inl l ↦ less_not_same r.x (whole i) l (same_turned (whole i) r.x s) | inr k ↦ at_least r.y w k.1 ])
     (λ b. elim b [ inl l ↦ less_not_same (whole i) r.x l s | inr k ↦ at_most r.y w k.1 ])
 
 on_flat : (i : ℕ) (r : ExactPoint) → Same (whole i) r.y → IsWithin r.x → OnSeg r (flat i)
 unfolding flat
 on_flat i r s w = on_seg (flat i) 0 r (flat_along i) ((flat_on (corner 0 i) r).0 s)
-    (λ b. elim b [ inl l ↦ at_least r.x w l | inr k ↦ less_not_same r.y (whole i) k.1 (flipped (whole i) r.y s) ])
+    (λ b. elim b [ inl l ↦ at_least r.x w l | inr k ↦ less_not_same r.y (whole i) k.1 (same_turned (whole i) r.y s) ])
     (λ b. elim b [ inl l ↦ at_most r.x w l | inr k ↦ less_not_same (whole i) r.y k.1 s ])
 
 of_upright : (i : ℕ) (r : ExactPoint) → OnSeg r (upright i) → Same (whole i) r.x × IsWithin r.y
 unfolding upright
 of_upright i r h =
     let s = (upright_on (corner i 0) r).1 (on_line (upright i) 4 r (upright_along i) h) in
-    (s, (not_less (whole 0) r.y (λ l. h.from (inr (flipped (whole i) r.x s, l))), not_less r.y (whole 1) (λ l. h.to (inr (s, l)))))
+    (s, (not_less (whole 0) r.y (λ l. h.from (inr (same_turned (whole i) r.x s, l))), not_less r.y (whole 1) (λ l. h.to (inr (s, l)))))
 
 of_flat : (i : ℕ) (r : ExactPoint) → OnSeg r (flat i) → Same (whole i) r.y × IsWithin r.x
 unfolding flat
@@ -130,8 +125,8 @@ on_side p = (
 
 same_trans' : (x y z : ExactNumber) → Same x y → Same x z → Same y z
 same_trans' x y z s t = elim (linear y z) [
-  | inl h ↦ absurd (less_not_same x z (same_less y x z (flipped x y s) h) t)
-  | inr k ↦ elim k [ inl e ↦ e | inr h ↦ absurd (less_not_same x y (same_less z x y (flipped x z t) h) s) ]
+  | inl h ↦ absurd (less_not_same x z (same_less y x z (same_turned x y s) h) t)
+  | inr k ↦ elim k [ inl e ↦ e | inr h ↦ absurd (less_not_same x y (same_less z x y (same_turned x z t) h) s) ]
 ]
 
 -- a segment on a side: both ends in the sheet, and on one line that is a side's
@@ -142,13 +137,13 @@ on_one_side s i = (
       upright u.0,
       u.1,
       covered (upright u.0) s 4 (upright_along u.0) (on_along s 4 (omega arith) (vector_ahead 4 (omega arith) (inl (omega arith))) i.0 ((upright_on s.p s.q).0 e.0))
-          (on_upright u.0 s.p u.2 h.0.0.1) (on_upright u.0 s.q (same_trans' s.p.x (whole u.0) s.q.x (flipped (whole u.0) s.p.x u.2) e.0) h.0.1.1),
+          (on_upright u.0 s.p u.2 h.0.0.1) (on_upright u.0 s.q (same_trans' s.p.x (whole u.0) s.q.x (same_turned (whole u.0) s.p.x u.2) e.0) h.0.1.1),
     ))
     | inr e ↦ (let u = flat_in s.p.y e.1 in (
       flat u.0,
       u.1,
       covered (flat u.0) s 0 (flat_along u.0) (on_along s 0 (omega arith) (vector_ahead 0 (omega arith) (inl (omega arith))) i.0 ((flat_on s.p s.q).0 e.0))
-          (on_flat u.0 s.p u.2 h.0.0.0) (on_flat u.0 s.q (same_trans' s.p.y (whole u.0) s.q.y (flipped (whole u.0) s.p.y u.2) e.0) h.0.1.0),
+          (on_flat u.0 s.p u.2 h.0.0.0) (on_flat u.0 s.q (same_trans' s.p.y (whole u.0) s.q.y (same_turned (whole u.0) s.p.y u.2) e.0) h.0.1.0),
     ))
   ],
   λ h. by h.0 (side_case h.0 h.1) (h.2 s.p (end_p s (along_of s i).0 (along_of s i).1)) (h.2 s.q (end_q s (along_of s i).0 (along_of s i).1)),
@@ -216,3 +211,10 @@ least_told x a b t e f h = (let k = zero_at_most x in let g = rw (e, f) at h in 
 
 pub most_told : (x : ExactNumber) (a b : ℤ) (t : Bool) → 0 < x.d → a ≡ pos x.d -ℤ x.a → b ≡ neg_ℤ x.b → IsTrue t ↔ (((a ≡ pos 0) × (b ≡ pos 0)) ⊎ Positive a b) → IsTrue t ↔ AtMost x (whole 1)
 most_told x a b t p e f h = (let k = at_most_one x p in let g = rw (e, f) at h in (λ s. k.0 (g.0 s), λ m. g.1 (k.1 m)))
+
+-- what is strictly between is no end
+pub not_end : (x : ExactNumber) → Less (whole 0) x → Less x (whole 1) → ¬ IsEnd x
+not_end x low high h = elim h [ inl s ↦ less_not_same (whole 0) x low s | inr s ↦ less_not_same x (whole 1) high (same_turned (whole 1) x s) ]
+
+pub end_moved : (x y : ExactNumber) → Same x y → IsEnd x → IsEnd y
+end_moved x y s h = elim h [ inl e ↦ inl (same_on (whole 0) x y e s) | inr e ↦ inr (same_on (whole 1) x y e s) ]

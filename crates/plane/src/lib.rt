@@ -2,6 +2,7 @@
 #![tactic(auto)]
 
 mod border;
+mod corners;
 mod crossing;
 mod image;
 mod laws;
@@ -16,6 +17,7 @@ mod support;
 mod ways;
 
 pub use border::{in_sheet, on_border, seg_on_border};
+pub use corners::{corner, sheet_sides};
 pub use crossing::cross_lines;
 pub use image::reflect;
 pub use laws::{
@@ -23,12 +25,12 @@ pub use laws::{
     segment_order_is_total,
 };
 pub use meeting::meet;
-pub use order::{is_before, is_same_point};
+pub use order::{earlier, is_before, is_same_point, later};
 pub use outcome::Meet;
 pub use point::Point;
 pub use point_text::{put_point, read_point};
 pub use segment::{Seg, SegBad, on};
-pub use sides::side;
+pub use sides::{are_one_side, is_beside, side};
 pub use support::SupportLine;
 
 #[cfg(test)]

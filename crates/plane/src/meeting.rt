@@ -1,18 +1,16 @@
 //! What two segments have in common, by their directions, the sides of their ends, and the order of points.
-ghost use Rattle.std.specs.Prelude.{◌≡◌, ◌≢◌, ℕ, ◌+◌, ◌<◌, ◌%◌, IsTrue, ◌↔◌};
-ghost use Rattle.exact.specs.Plane.{ExactPoint, IsPointCanonical, vector};
-ghost use Rattle.geometry.specs.Gap.{cross};
-ghost use Rattle.geometry.specs.Meeting.{Along, SameSide};
+ghost use Rattle.std.specs.Prelude.{◌≡◌, ◌≢◌, ℕ, ◌+◌, ◌<◌, ◌%◌};
+ghost use Rattle.exact.specs.Plane.{ExactPoint, IsPointCanonical};
+ghost use Rattle.geometry.specs.Meeting.{Along};
 ghost use Rattle.plane.specs.Meets.{Meets, HasCanonicalPoints, AreCollinear};
-ghost use Rattle.plane.specs.Sides.{IsOneSide};
 
 use crate::crossing::cross_lines;
 use crate::order::{earlier, is_before, later};
 use crate::segment::{is_between, joined};
-use crate::sides::{is_on_line, side};
+use crate::sides::{is_beside, is_on_line};
 use crate::{Meet, Point, Seg};
 use ports::Steps;
-use qroot2::{Dir, Sign};
+use qroot2::Dir;
 use std::sync::ledger::Ledger;
 
 /// What two segments have in common. Each call counts one step.
@@ -125,22 +123,5 @@ fn slanted(s: &Seg, k: Dir, t: &Seg, j: Dir) -> Meet
     match cross_lines(&p, k, &q, j) {
         Some(point) => Meet::At(point),
         None => Meet::AtOutOfRange,
-    }
-}
-
-/// Whether both ends of a segment are strictly on one side of the line through `at` in direction `dir`.
-fn is_beside(seg: &Seg, at: &Point, dir: Dir) -> bool
-    ensures { IsTrue result ↔ SameSide (cross (vector dir) at.now seg.now.p) (cross (vector dir) at.now seg.now.q) }
-{
-    are_one_side(side(at, dir, &seg.p()), side(at, dir, &seg.q()))
-}
-
-/// Whether two signs are one, and not zero.
-fn are_one_side(first: Sign, second: Sign) -> bool
-    ensures { IsTrue result ↔ IsOneSide first second }
-{
-    match (first, second) {
-        (Sign::Plus, Sign::Plus) | (Sign::Minus, Sign::Minus) => true,
-        _ => false,
     }
 }

@@ -42,14 +42,14 @@ pub fn is_before(first: &Point, second: &Point) -> bool
 }
 
 /// The later of two points.
-pub(crate) fn later(a: &Point, b: &Point) -> Point
+pub fn later(a: &Point, b: &Point) -> Point
     ensures { IsLater a.now b.now result }
 {
     if is_before(a, b) { *b } else { *a }
 }
 
 /// The earlier of two points.
-pub(crate) fn earlier(a: &Point, b: &Point) -> Point
+pub fn earlier(a: &Point, b: &Point) -> Point
     ensures { IsEarlier a.now b.now result }
 {
     if is_before(b, a) { *b } else { *a }

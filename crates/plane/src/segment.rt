@@ -3,7 +3,7 @@ ghost use Rattle.std.specs.Prelude.{◌≡◌, ◌≢◌, ℕ, ◌<◌, ◌≤�
 ghost use Rattle.exact.specs.Plane.{ExactSegment, Before, DirOf, IsSegment, OnSeg, IsPointCanonical};
 ghost use Rattle.geometry.specs.Root.{size};
 ghost use Rattle.plane.specs.Ways.{root, IsAlong, IsAhead};
-ghost use Rattle.plane.specs.Segments.{HasEnds};
+ghost use Rattle.plane.specs.Segments.{HasEnds, IsHeld};
 ghost use Rattle.plane.specs.declared.segment.SegBad.{SegBad};
 
 use crate::Point;
@@ -47,6 +47,7 @@ impl Seg {
     /// The segment between two points, given in either order.
     pub fn new(p: Point, q: Point) -> Result<Seg, SegBad>
         ensures ok { IfOk result (λ s. IsSegment s × HasEnds s p q) }
+        ensures held { IfOk result IsHeld }
         ensures same_point { (result ≡ Err SegBad.SamePoint) ↔ (p ≡ q) }
         ensures not_direction { (result ≡ Err SegBad.NotDirection) ↔ ((p ≢ q) × ((s : ExactSegment) → HasEnds s p q → ¬ IsSegment s)) }
     {
@@ -106,7 +107,8 @@ pub(crate) fn is_between(seg: &Seg, point: &Point) -> bool
 /// The segment from one point to a later one.
 pub(crate) fn joined(p: Point, q: Point) -> Seg
     requires { let s : ExactSegment = record { p = p; q = q } in IsSegment s }
-    ensures { result ≡ record { p = p; q = q } }
+    ensures is { result ≡ record { p = p; q = q } }
+    ensures held { IsHeld result }
 {
     let _p = (p.x.d(), p.y.d());
     let _q = (q.x.d(), q.y.d());
@@ -117,6 +119,7 @@ pub(crate) fn joined(p: Point, q: Point) -> Seg
 fn in_order(p: Point, q: Point) -> Result<Seg, SegBad>
     requires { Before p q }
     ensures ok { IfOk result (λ s. IsSegment s × (s ≡ record { p = p; q = q })) }
+    ensures held { IfOk result IsHeld }
     ensures not_direction { (result ≡ Err SegBad.NotDirection) ↔ (let s : ExactSegment = record { p = p; q = q } in ¬ IsSegment s) }
     ensures not_same { result ≢ Err SegBad.SamePoint }
 {

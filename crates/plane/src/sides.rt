@@ -1,14 +1,15 @@
-//! On which side of a line a point is.
+//! On which side of a line a point is, or a segment.
 ghost use Rattle.std.specs.Prelude.{◌≡◌, ℕ, ◌≤◌, ◌^◌, IsTrue, ◌↔◌};
 ghost use Rattle.exact.specs.Plane.{vector};
 ghost use Rattle.geometry.specs.Root.{count, size};
 ghost use Rattle.geometry.specs.Gap.{cross};
+ghost use Rattle.geometry.specs.Meeting.{SameSide};
 ghost use Rattle.plane.specs.Ways.{root, offset_of, IsAlong};
-ghost use Rattle.plane.specs.Sides.{IsSide};
+ghost use Rattle.plane.specs.Sides.{IsSide, IsOneSide};
 
-use crate::Point;
 use crate::order::{is_level, is_plumb};
 use crate::ways::{Way, cross_product};
+use crate::{Point, Seg};
 use qroot2::{Dir, Sign, Wide};
 
 /// On which side of the line through `at` in direction `dir` a point is: Plus on its left, Minus on
@@ -27,6 +28,23 @@ pub(crate) fn is_on_line(at: &Point, dir: Dir, point: &Point) -> bool
         0 => is_level(at, point),
         4 => is_plumb(at, point),
         _ => is_along(dir, &Way::new(at, point)),
+    }
+}
+
+/// Whether both ends of a segment are strictly on one side of the line through `at` in direction `dir`.
+pub fn is_beside(seg: &Seg, at: &Point, dir: Dir) -> bool
+    ensures { IsTrue result ↔ SameSide (cross (vector dir) at.now seg.now.p) (cross (vector dir) at.now seg.now.q) }
+{
+    are_one_side(side(at, dir, &seg.p()), side(at, dir, &seg.q()))
+}
+
+/// Whether two signs are one, and not zero.
+pub fn are_one_side(first: Sign, second: Sign) -> bool
+    ensures { IsTrue result ↔ IsOneSide first second }
+{
+    match (first, second) {
+        (Sign::Plus, Sign::Plus) | (Sign::Minus, Sign::Minus) => true,
+        _ => false,
     }
 }
 

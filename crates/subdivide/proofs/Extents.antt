@@ -38,9 +38,6 @@ same_less x y z s h = less_of y z (sym (real_total.congr x y z (real_equal x y s
 pub segment_along : (s : ExactSegment) → IsSegment s → (k : ℕ) × Along s k
 segment_along s h = (h.1.0, record { small = h.1.1; ordered = h.0; dir = h.1.2 })
 
-pub along_segment : (s : ExactSegment) (k : ℕ) → Along s k → IsSegment s
-along_segment s k a = (a.ordered, (k, a.small, a.dir))
-
 flat_cross : (p r : ExactPoint) → cross (vector 0) p r ≡ gy p r
 unfolding cross num count
 flat_cross p r = flat (gx p r) (gy p r)

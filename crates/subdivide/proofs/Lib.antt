@@ -6,7 +6,6 @@ mod Crossings
 mod Points
 mod SideRange
 mod LinePlaces
-mod SheetLines
 mod Refusal
 mod Whole
 mod ChainAmong

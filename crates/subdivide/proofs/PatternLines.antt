@@ -24,28 +24,11 @@ use Rattle.geometry.proofs.Directions.{right_half, one_direction}
 use Rattle.geometry.proofs.PointOrder.{less_not_same, less_not_back, before_not_same}
 use Rattle.geometry.proofs.Lines.{On, on_trans}
 use Rattle.geometry.proofs.Segments.{on_seg, one_common, none_common, ahead, end_on, end_p, end_q, covered}
-
-pub zero_less_one : Less (whole 0) (whole 1)
-zero_less_one = inl (omega (arith, ints), omega (arith, ints), omega (arith, ints))
-
-same_self : (x : ExactNumber) → Same x x
-same_self x = record { a = refl; b = refl }
+use Rattle.exact.proofs.Told.{same_itself}
+use Rattle.plane.proofs.SidesMade.{left_along, right_along, low_along, high_along}
 
 flipped : (x y : ExactNumber) → Same x y → Same y x
 flipped x y s = record { a = sym s.a; b = sym s.b }
-
--- the four sides
-pub left_along : Along (record { p = corner 0 0; q = corner 0 1 }) 4
-left_along = record { small = omega arith; ordered = inr (same_self (whole 0), zero_less_one); dir = (whole 1, inl (omega (arith, ints), omega (arith, ints), omega (arith, ints)), record { x = record { a = refl; b = refl }; y = record { a = refl; b = refl } }) }
-
-pub right_along : Along (record { p = corner 1 0; q = corner 1 1 }) 4
-right_along = record { small = omega arith; ordered = inr (same_self (whole 1), zero_less_one); dir = (whole 1, inl (omega (arith, ints), omega (arith, ints), omega (arith, ints)), record { x = record { a = refl; b = refl }; y = record { a = refl; b = refl } }) }
-
-pub low_along : Along (record { p = corner 0 0; q = corner 1 0 }) 0
-low_along = record { small = omega arith; ordered = inl zero_less_one; dir = (whole 1, inl (omega (arith, ints), omega (arith, ints), omega (arith, ints)), record { x = record { a = refl; b = refl }; y = record { a = refl; b = refl } }) }
-
-pub high_along : Along (record { p = corner 0 1; q = corner 1 1 }) 0
-high_along = record { small = omega arith; ordered = inl zero_less_one; dir = (whole 1, inl (omega (arith, ints), omega (arith, ints), omega (arith, ints)), record { x = record { a = refl; b = refl }; y = record { a = refl; b = refl } }) }
 
 pub contains_map : {X Y : Type 0} (g : X → Y) (xs : List X) (y : Y) (d : X) → Contains (map g xs) y → (x : X) × Contains xs x × (g x ≡ y)
 contains_map g xs y d c = (let h : c.0 < length xs = omega (arith, c.1, length-map xs g) in
@@ -173,7 +156,7 @@ pub at_most : (x : ExactNumber) → IsWithin x → Less (whole 1) x → ⊥
 at_most x w h = elim w.1 [ inl s ↦ less_not_same (whole 1) x h (flipped x (whole 1) s) | inr l ↦ less_not_back (whole 1) x h l ]
 
 less_not_itself : (x : ExactNumber) → Less x x → ⊥
-less_not_itself x h = less_not_same x x h (same_self x)
+less_not_itself x h = less_not_same x x h (same_itself x)
 
 -- a point of the sheet on the line of a side is on the side
 pub on_left : (r : ExactPoint) → InSheet r → On (vector 4) left.p r → OnSeg r left
@@ -248,7 +231,7 @@ line_along creases p s l = by (line_case creases s l.0 l.1)
     by (LineCase.is_crease f c e g) = subst (λ z. (k : ℕ) × Along z k) e (key_along f.seg (key_of creases p f c))
 
 point_self : (p : ExactPoint) → SamePoint p p
-point_self p = record { x = same_self p.x; y = same_self p.y }
+point_self p = record { x = same_itself p.x; y = same_itself p.y }
 
 side_ends : (creases : List ExactCrease) (s : ExactSegment) → SideCase s → IsVertex creases s.p × IsVertex creases s.q
 unfolding left low high right

@@ -1,9 +1,6 @@
 -- A line of a pattern meets a side of the sheet only in an end of its own, which can be held.
-use Rattle.std.proofs.Common.{◌≡◌, ℕ, ◌*◌, ◌%◌, List, [], ◌∷◌, refl, sym, ap, subst, ◌∙◌, ◌⊎◌, inl, inr, arith}
+use Rattle.std.proofs.Common.{◌≡◌, ℕ, ◌%◌, List, [], ◌∷◌, refl, sym, ap, subst, ◌∙◌, ◌⊎◌, inl, inr, arith}
 use Rattle.std.specs.Prelude.{Contains}
-use Rattle.std.specs.Int.{◌∣◌}
-use Rattle.std.proofs.lemmas.Nat.Gcd.{dvd_antisymm}
-use Rattle.std.proofs.Math.Nat.{dvd-mul_right}
 use Rattle.exact.specs.Number.{Less, IsCanonical, whole, sub}
 use Rattle.exact.specs.Plane.{ExactPoint, SamePoint, ExactSegment, OnSeg, OnBoth, Cross, Overlap, vector, IsPointCanonical, IsPointRepresentable}
 use Rattle.exact.proofs.Order.{linear}
@@ -18,11 +15,13 @@ use Rattle.geometry.proofs.Lines.{On, cross_back, minus_minus}
 use Rattle.geometry.proofs.Plain.{flat_on, upright_on}
 use Rattle.geometry.proofs.PointOrder.{ordered, before_not_same, same_back, same_trans}
 use Rattle.geometry.proofs.Segments.{beside, none_common, end_p, end_q, ahead}
+use Rattle.plane.proofs.SheetSides.{zero_less_one}
+use Rattle.plane.proofs.SidesMade.{whole_canonical, left_along, right_along, low_along, high_along}
 use Rattle.sheet.specs.Sheet.{sides, InSheet, IsWithin}
 use Rattle.sheet.specs.Pattern.{ExactCrease, IsPattern, IsKey}
 use Rattle.subdivide.specs.Subdivision.{IsLine}
 use Rattle.subdivide.proofs.Extents.{higher, lower}
-use Rattle.subdivide.proofs.PatternLines.{zero_less_one, LineCase, line_case, SideCase, side_case, left, low, high, right, left_along, right_along, low_along, high_along, on_left, on_right, on_low, on_high, at_least, at_most, parallel_or_not, key_of, line_along, lines_apart}
+use Rattle.subdivide.proofs.PatternLines.{LineCase, line_case, SideCase, side_case, left, low, high, right, on_left, on_right, on_low, on_high, at_least, at_most, parallel_or_not, key_of, line_along, lines_apart}
 use Rattle.subdivide.proofs.Points.{same_held}
 
 upright_cross : (p r : ExactPoint) → cross (vector 4) p r ≡ minus (gx p r)
@@ -138,17 +137,11 @@ side_end u t k j v b a x y n o = elim (on_line_or_not k u.p t.p) [
   ]
 ]
 
-divides_one : (k : ℕ) → k ∣ 1 → k ≡ 1
-divides_one k h = dvd_antisymm h (subst (λ (n : ℕ). 1 ∣ n) (grow k) (dvd-mul_right 1 k))
-  where
-    grow : (k : ℕ) → 1 * k ≡ k
-    grow k = omega arith
+zero_canonical : IsCanonical (whole 0)
+zero_canonical = whole_canonical 0 (omega arith)
 
-pub zero_canonical : IsCanonical (whole 0)
-zero_canonical = record { positive = omega arith; lowest = λ k a b d. divides_one k d; a = omega arith; b = omega arith; d = omega arith }
-
-pub one_canonical : IsCanonical (whole 1)
-one_canonical = record { positive = omega arith; lowest = λ k a b d. divides_one k d; a = omega arith; b = omega arith; d = omega arith }
+one_canonical : IsCanonical (whole 1)
+one_canonical = whole_canonical 1 (omega arith)
 
 -- the ends of a line can be held and are in the sheet
 record HasEnds (t : ExactSegment) : Type 0 where

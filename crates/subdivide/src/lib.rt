@@ -9,7 +9,6 @@ mod gather;
 mod laws;
 mod line;
 mod lines;
-mod sides;
 
 pub use cut::{Subdivision, scratch};
 pub use edge::{CutBad, Edge, EdgeKind};

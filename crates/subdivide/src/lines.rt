@@ -5,8 +5,8 @@ ghost use Rattle.subdivide.specs.Subdivision.{kind_of as kind_of_colour, lines};
 
 use crate::EdgeKind;
 use crate::line::Line;
-use crate::sides::sides;
 use pattern::Pattern;
+use plane::sheet_sides;
 use sheet::Colour;
 use std::alloc::{AllocError, Global};
 
@@ -26,7 +26,7 @@ pub fn lines_of(alloc: Global, pattern: &Pattern) -> Result<Vec<Line>, AllocErro
     ensures lines { IfOk result (λ ls. ls.items ≡ lines pattern.now) }
     ensures pattern { IsPattern pattern.now }
 {
-    let sides = sides();
+    let sides = sheet_sides();
     let borders = sides.iter().map(|side| Line::new(*side, EdgeKind::B));
     let creases = pattern.creases();
     let inner = creases.map(|crease| Line::new(crease.seg, kind_of(crease.colour)));

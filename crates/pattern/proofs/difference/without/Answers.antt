@@ -12,7 +12,7 @@ loop-crease-preserved-in-Continue-1 c =
     let before = taken_pattern c.args.pattern.now i.0 c.loop-crease.crease-iterator c.next.new.self f c.creases-crease-items.ensures.pattern i.1 c.in-Some.ensures.steps in (
       i.0 ++ f ∷ [],
       moved c.args.pattern.now i.0 c.loop-crease.crease-iterator c.next.new.self f i.1 c.in-Some.ensures.steps,
-      subst (λ (xs : List ExactCrease). IsWithout (i.0 ++ f ∷ []) c.args.other.now xs) (sym c.in_ok-push.ensures.items)
+      subst (λ (xs : List ExactCrease). IsWithout (i.0 ++ f ∷ []) c.args.other.now xs) (sym {A = List ExactCrease} c.in_ok-push.ensures.items)
           (without_more i.0 c.args.other.now c.loop-crease.only.items f before.ordered i.2 (λ h. (let k = c.has.ensures.1 h in let n = c.if-not-has.true in cc))),
     )
 

@@ -1,6 +1,4 @@
 use Rattle.exact.specs.Plane.{Overlap}
-use Rattle.std.specs.Prelude.{All}
-use Rattle.std.proofs.Common.{take}
 use Rattle.sheet.specs.Pattern.{ExactCrease}
 use Rattle.pattern.specs.Fitting.{AreApart}
 use Rattle.pattern.proofs.Pairs.{pairs_next, pairs_tested, pairs_fail}
@@ -13,7 +11,7 @@ Apart f g = ¬ Overlap f.seg g.seg
 pub returns-then-not-is_apart_from : goal.returns-then-not-is_apart_from
 returns-then-not-is_apart_from c = answers_no (AreApart c.args.creases.now)
     (pairs_fail Apart c.args.creases.now c.loop-i.i c.index-creases-i.result c.loop-i-test.true c.index-creases-i.is
-    (refuted c.is_apart_from.result (All (λ (f : ExactCrease). Apart f c.index-creases-i.result) (take c.loop-i.i c.args.creases.now)) c.if-not-is_apart_from.true c.is_apart_from.ensures))
+    (refuted c.is_apart_from.result c.if-not-is_apart_from.true c.is_apart_from.ensures))
 
 pub loop-i-preserved : goal.loop-i-preserved
 loop-i-preserved c = pairs_next Apart c.args.creases.now c.loop-i.i c.index-creases-i.result c.loop-i-test.true c.index-creases-i.is c.loop-i.invariant (c.is_apart_from.ensures.0 c.if-not-is_apart_from.false)

@@ -9,7 +9,7 @@ loop-crease-preserved c = all_next (IsFree c.args.pattern.now c.args.removed.now
 pub returns-then-not-is_free : goal.returns-then-not-is_free
 returns-then-not-is_free c = answers_no (All (IsFree c.args.pattern.now c.args.removed.now) c.args.creases.now)
     (one_fails (IsFree c.args.pattern.now c.args.removed.now) c.args.creases.now c.loop-crease.crease-index c.crease-item.result c.loop-crease-test.true c.crease-item.is
-    (refuted c.is_free.result (IsFree c.args.pattern.now c.args.removed.now c.crease-item.result) c.if-not-is_free.true c.is_free.ensures))
+    (refuted c.is_free.result c.if-not-is_free.true c.is_free.ensures))
 
 pub returns : goal.returns
 returns c = answers_yes (All (IsFree c.args.pattern.now c.args.removed.now) c.args.creases.now) (all_tested (IsFree c.args.pattern.now c.args.removed.now) c.args.creases.now c.loop-crease.crease-index c.loop-crease-test.false c.loop-crease.invariant)

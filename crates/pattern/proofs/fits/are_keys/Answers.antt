@@ -12,7 +12,7 @@ loop-crease-preserved c = all_next HasKey c.args.creases.now c.loop-crease.creas
 
 pub returns-then-not-is_key : goal.returns-then-not-is_key
 returns-then-not-is_key c = answers_no (All HasKey c.args.creases.now)
-    (one_fails HasKey c.args.creases.now c.loop-crease.crease-index c.crease-item.result c.loop-crease-test.true c.crease-item.is (λ k. refuted c.is_key.result (IsKey c.crease.inside.seg) c.if-not-is_key.true c.is_key.ensures (subst HasKey (sym c.crease.view_is) k)))
+    (one_fails HasKey c.args.creases.now c.loop-crease.crease-index c.crease-item.result c.loop-crease-test.true c.crease-item.is (λ k. refuted c.is_key.result c.if-not-is_key.true c.is_key.ensures (subst HasKey (sym c.crease.view_is) k)))
 
 pub returns : goal.returns
 returns c = answers_yes (All HasKey c.args.creases.now) (all_tested HasKey c.args.creases.now c.loop-crease.crease-index c.loop-crease-test.false c.loop-crease.invariant)

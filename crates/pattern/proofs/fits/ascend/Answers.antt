@@ -20,7 +20,7 @@ loop-i-preserved c = ascend_next c.args.creases.now c.loop-i.i c.index-creases-i
 pub returns-then-not-comes_before : goal.returns-then-not-comes_before
 returns-then-not-comes_before c = answers_no (Ascends c.args.creases.now)
     (ascend_fails c.args.creases.now c.loop-i.i c.index-creases-i.result c.index-creases-i-in-loop-i.result c.loop-i.auto.i c.loop-i-test.true c.index-creases-i.is c.index-creases-i-in-loop-i.is
-    (λ b. refuted c.comes_before.result (SegmentBefore c.last.inside.seg c.next.inside.seg) c.if-not-comes_before.true c.comes_before.ensures (moved c.index-creases-i.result _ c.index-creases-i-in-loop-i.result _ (sym c.last.view_is) (sym c.next.view_is) b)))
+    (λ b. refuted c.comes_before.result c.if-not-comes_before.true c.comes_before.ensures (moved c.index-creases-i.result _ c.index-creases-i-in-loop-i.result _ (sym c.last.view_is) (sym c.next.view_is) b)))
 
 pub returns : goal.returns
 returns c = answers_yes (Ascends c.args.creases.now) (pairs_tested (λ (f g : ExactCrease). SegmentBefore f.seg g.seg) c.args.creases.now c.loop-i.i c.loop-i-test.false c.loop-i.invariant)

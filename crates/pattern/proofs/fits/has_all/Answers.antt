@@ -8,7 +8,7 @@ loop-crease-preserved c = all_next (λ (f : ExactCrease). Contains c.args.patter
 
 pub returns-then-not-has : goal.returns-then-not-has
 returns-then-not-has c = answers_no (All (λ (f : ExactCrease). Contains c.args.pattern.now f) c.args.creases.now)
-    (one_fails (λ (f : ExactCrease). Contains c.args.pattern.now f) c.args.creases.now c.loop-crease.crease-index c.crease-item.result c.loop-crease-test.true c.crease-item.is (refuted c.has.result (Contains c.args.pattern.now c.crease-item.result) c.if-not-has.true c.has.ensures))
+    (one_fails (λ (f : ExactCrease). Contains c.args.pattern.now f) c.args.creases.now c.loop-crease.crease-index c.crease-item.result c.loop-crease-test.true c.crease-item.is (refuted c.has.result c.if-not-has.true c.has.ensures))
 
 pub returns : goal.returns
 returns c = answers_yes (All (λ (f : ExactCrease). Contains c.args.pattern.now f) c.args.creases.now) (all_tested (λ (f : ExactCrease). Contains c.args.pattern.now f) c.args.creases.now c.loop-crease.crease-index c.loop-crease-test.false c.loop-crease.invariant)

@@ -1,4 +1,4 @@
-use Rattle.std.proofs.Common.{◌≡◌, ◌≢◌, refl, sym, subst}
+use Rattle.std.proofs.Common.{◌≢◌, refl, sym, subst}
 use Rattle.std.specs.Prelude.{Contains}
 use Rattle.std.proofs.lemmas.List.Elements.{All-contains, Contains-get_or}
 use Rattle.sheet.specs.Pattern.{ExactCrease}
@@ -9,7 +9,7 @@ abbrev IsOther : ExactCrease → ExactCrease → Type 0
 IsOther g f = f ≢ g
 
 pub loop-one-preserved : goal.loop-one-preserved
-loop-one-preserved c = all_next (IsOther c.args.crease.now) c.args.creases.now c.loop-one.one-index c.one-item.result c.loop-one-test.true c.one-item.is c.loop-one.invariant (refuted c.is_one.result (c.one-item.result ≡ c.args.crease.now) c.if-is_one.false c.is_one.ensures)
+loop-one-preserved c = all_next (IsOther c.args.crease.now) c.args.creases.now c.loop-one.one-index c.one-item.result c.loop-one-test.true c.one-item.is c.loop-one.invariant (refuted c.is_one.result c.if-is_one.false c.is_one.ensures)
 
 pub returns-then-is_one : goal.returns-then-is_one
 returns-then-is_one c = answers_yes (Contains c.args.creases.now c.args.crease.now)

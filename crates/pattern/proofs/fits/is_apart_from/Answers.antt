@@ -19,7 +19,7 @@ loop-earlier-preserved c = all_next (IsApart c.args.crease.now.seg) c.args.creas
 pub returns-then-not-are_apart : goal.returns-then-not-are_apart
 returns-then-not-are_apart c = answers_no (All (IsApart c.args.crease.now.seg) c.args.creases.now)
     (one_fails (IsApart c.args.crease.now.seg) c.args.creases.now c.loop-earlier.earlier-index c.earlier-item.result c.loop-earlier-test.true c.earlier-item.is
-    (λ k. refuted c.are_apart.result (¬ Overlap c.earlier.inside.seg c.crease.inside.seg) c.if-not-are_apart.true c.are_apart.ensures (moved c.earlier-item.result _ c.args.crease.now _ (sym c.earlier.view_is) (sym c.crease.view_is) k)))
+    (λ k. refuted c.are_apart.result c.if-not-are_apart.true c.are_apart.ensures (moved c.earlier-item.result _ c.args.crease.now _ (sym c.earlier.view_is) (sym c.crease.view_is) k)))
 
 pub returns : goal.returns
 returns c = answers_yes (All (IsApart c.args.crease.now.seg) c.args.creases.now) (all_tested (IsApart c.args.crease.now.seg) c.args.creases.now c.loop-earlier.earlier-index c.loop-earlier-test.false c.loop-earlier.invariant)

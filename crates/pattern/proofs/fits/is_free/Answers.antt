@@ -26,7 +26,7 @@ returns-then-not-may_stand c =
     let i = c.loop-other.invariant in
     let f : ExactCrease = c.in-Some.other in
     answers_no (IsFree c.args.pattern.now c.args.removed.now c.args.crease.now)
-    (λ h. refuted c.may_stand.result (MayStand c.args.removed.now c.args.crease.now f) c.if-not-may_stand.true c.may_stand.ensures
+    (λ h. refuted c.may_stand.result c.if-not-may_stand.true c.may_stand.ensures
     (All-contains (MayStand c.args.removed.now c.args.crease.now) c.args.pattern.now f h
     (subst (λ (xs : List ExactCrease). Contains xs f) i.1 (subst (λ (xs : List ExactCrease). Contains (i.0 ++ xs) f) (sym c.in-Some.ensures.steps) (Contains-append_right i.0 (f ∷ c.next.new.self) f (0, omega arith, refl))))))
 

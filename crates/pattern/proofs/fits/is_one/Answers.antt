@@ -1,4 +1,4 @@
-use Rattle.std.proofs.Common.{◌≡◌, ◌≢◌, Bool, true, false, refl, sym, subst, ap, ◌∙◌, rules}
+use Rattle.std.proofs.Common.{◌≡◌, ◌≢◌, Bool, true, false, sym, subst, ap, ◌∙◌, rules}
 use Rattle.std.specs.Prelude.{IsTrue, ◌↔◌}
 use Rattle.std.specs.declared.cmp.Ordering.{Ordering}
 use Rattle.std.specs.Ordering.{is_eq}
@@ -7,18 +7,11 @@ use Rattle.exact.specs.Plane.{ExactSegment}
 use Rattle.plane.specs.Order.{segment_cmp}
 use Rattle.plane.proofs.Orders.{segment_exact}
 use Rattle.sheet.specs.Pattern.{ExactCrease}
-use Rattle.sheet.specs.declared.Colour.{Colour}
-use Rattle.sheet.specs.declared.Colour.TheVariants as colour
 use Rattle.sheet.specs.contracts.Colour.{the_type}
 use Rattle.pattern.proofs.Keys.{tied}
-use Rattle.pattern.proofs.Members.{crease_same, tied_segments}
+use Rattle.pattern.proofs.Members.{crease_same, tied_segments, colour_itself}
 use Rattle.pattern.proofs.Told.{answers_not}
 use Rattle.pattern.proofs.fits.is_one.Goals as goal
-
-same_itself : (c : Colour) → sameb the_type c c ≡ true
-same_itself colour.M = refl
-same_itself colour.V = refl
-same_itself colour.A = refl
 
 one_segment : (s t : ExactSegment) (r : Ordering) (b : Bool) → r ≡ segment_cmp s t → b ≡ is_eq r → b ≡ true → s ≡ t
 one_segment s t r b e f g = segment_exact s t (sym e ∙ tied r (sym f ∙ g))
@@ -29,7 +22,7 @@ other_segment s t r b e f g h = (let k = sym g ∙ f ∙ ap is_eq (e ∙ tied_se
 told : (f g : ExactCrease) (r : Bool) → f.seg ≡ g.seg → r ≡ sameb the_type f.colour g.colour → IsTrue r ↔ (f ≡ g)
 told f g r s q = (
   λ t. crease_same f g s (same_true the_type (search rules) f.colour g.colour (sym q ∙ t)),
-  λ e. q ∙ subst (λ x. sameb the_type f.colour x ≡ true) (ap (λ (h : ExactCrease). h.colour) e) (same_itself f.colour),
+  λ e. q ∙ subst (λ x. sameb the_type f.colour x ≡ true) (ap (λ (h : ExactCrease). h.colour) e) (colour_itself f.colour),
 )
 
 views : (f g x y : ExactCrease) (r : Bool) → f ≡ x → g ≡ y → IsTrue r ↔ (f ≡ g) → IsTrue r ↔ (x ≡ y)

@@ -15,7 +15,7 @@ pub returns-else-are_apart : goal.returns-else-are_apart
 returns-else-are_apart c = (
   λ t. inr (c.is_among.ensures.0 t),
   λ q. elim q [
-    | inl n ↦ absurd (refuted c.are_apart.result (¬ Overlap c.other.inside.seg c.crease.inside.seg) c.if-are_apart.false c.are_apart.ensures (moved c.args.other.now _ c.args.crease.now _ (sym c.other.view_is) (sym c.crease.view_is) n))
+    | inl n ↦ absurd (refuted c.are_apart.result c.if-are_apart.false c.are_apart.ensures (moved c.args.other.now _ c.args.crease.now _ (sym c.other.view_is) (sym c.crease.view_is) n))
     | inr k ↦ c.is_among.ensures.1 k
   ],
 )

@@ -1,5 +1,5 @@
 use Rattle.sheet.specs.Sheet.{InSheet}
-use Rattle.pattern.proofs.Placing.{both_told}
+use Rattle.plane.proofs.Told.{both_told}
 use Rattle.pattern.proofs.native.place.are_in_sheet.Goals as goal
 
 pub returns-then-in_sheet : goal.returns-then-in_sheet

@@ -1,7 +1,7 @@
 use Rattle.std.proofs.Common.{subst, refl, sym}
 use Rattle.exact.specs.Plane.{IsSegment}
 use Rattle.sheet.specs.Sheet.{OnBorder}
-use Rattle.pattern.proofs.Placing.{refuted, shown}
+use Rattle.pattern.proofs.Told.{refuted, shown}
 use Rattle.pattern.proofs.native.place.placed.Goals as goal
 
 pub returns-then-not-are_in_sheet : goal.returns-then-not-are_in_sheet

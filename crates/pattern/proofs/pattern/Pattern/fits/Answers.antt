@@ -1,9 +1,8 @@
 use Rattle.std.proofs.Common.{◌≡◌, List, sym, subst, arith}
-use Rattle.std.specs.Prelude.{All, Contains}
-use Rattle.sheet.specs.Pattern.{ExactCrease, IsPattern, IsKey}
+use Rattle.sheet.specs.Pattern.{ExactCrease, IsPattern}
 use Rattle.pattern.specs.Deltas.{Fits}
 use Rattle.pattern.specs.declared.delta.Delta.{Delta}
-use Rattle.pattern.specs.Fitting.{AreApart, PassesTests}
+use Rattle.pattern.specs.Fitting.{PassesTests}
 use Rattle.pattern.proofs.Fitting.{from_tests, to_tests}
 use Rattle.pattern.proofs.Told.{answers_no, refuted}
 use Rattle.pattern.proofs.pattern.Pattern.fits.Goals as goal
@@ -17,12 +16,12 @@ fits_at old delta r a e f p t = from_tests old delta p (subst (λ (x : List Exac
 
 pub returns-then-not-has_all : goal.returns-then-not-has_all
 returns-then-not-has_all c = answers_no (Fits c.args.self.now c.args.delta.now)
-    (λ t. refuted c.has_all.result (All (λ (f : ExactCrease). Contains c.args.self.now f) c.as_slice-removed.result.now) c.if-not-has_all.true c.has_all.ensures
+    (λ t. refuted c.has_all.result c.if-not-has_all.true c.has_all.ensures
     (tests_at c.args.self.now c.args.delta.now c.as_slice-removed.result.now c.as_slice-added.result.now c.as_slice-removed.ensures c.as_slice-added.ensures c.len-len.ensures.pattern t).there)
 
 pub returns-then-not-are_keys : goal.returns-then-not-are_keys
 returns-then-not-are_keys c = answers_no (Fits c.args.self.now c.args.delta.now)
-    (λ t. refuted c.are_keys.result (All (λ (f : ExactCrease). IsKey f.seg) c.as_slice-added.result.now) c.if-not-are_keys.true c.are_keys.ensures
+    (λ t. refuted c.are_keys.result c.if-not-are_keys.true c.are_keys.ensures
     (tests_at c.args.self.now c.args.delta.now c.as_slice-removed.result.now c.as_slice-added.result.now c.as_slice-removed.ensures c.as_slice-added.ensures c.len-len.ensures.pattern t).keys)
 
 pub returns-then-len-added : goal.returns-then-len-added
@@ -31,7 +30,7 @@ returns-then-len-added c = answers_no (Fits c.args.self.now c.args.delta.now)
 
 pub returns-then-not-are_all_apart : goal.returns-then-not-are_all_apart
 returns-then-not-are_all_apart c = answers_no (Fits c.args.self.now c.args.delta.now)
-    (λ t. refuted c.are_all_apart.result (AreApart c.as_slice-added.result.now) c.if-not-are_all_apart.true c.are_all_apart.ensures
+    (λ t. refuted c.are_all_apart.result c.if-not-are_all_apart.true c.are_all_apart.ensures
     (tests_at c.args.self.now c.args.delta.now c.as_slice-removed.result.now c.as_slice-added.result.now c.as_slice-removed.ensures c.as_slice-added.ensures c.len-len.ensures.pattern t).apart)
 
 pub returns : goal.returns

@@ -1,0 +1,193 @@
+-- What a ray meets of one segment.
+use Rattle.std.proofs.Common.{◌≡◌, ◌≢◌, ℕ, ◌+◌, ◌%◌, ◌<◌, ◌≤◌, refl, sym, subst, ◌⊎◌, inl, inr, arith}
+use Rattle.exact.specs.Plane.{ExactPoint, ExactSegment, SamePoint, Before, OnSeg, IsPointCanonical, IsPointRepresentable, vector}
+use Rattle.exact.proofs.Order.{same_turned}
+use Rattle.geometry.specs.Root.{minus, count, Above}
+use Rattle.geometry.specs.Gap.{cross, det}
+use Rattle.geometry.specs.Meeting.{Along, SameSide}
+use Rattle.geometry.proofs.Domain.{above_not_minus, sign_of}
+use Rattle.geometry.proofs.Lines.{On, on_same, on_back, on_trans, on_from, one_point}
+use Rattle.geometry.proofs.Directions.{not_parallel, one_direction}
+use Rattle.geometry.proofs.Found.{along_half, turn_on}
+use Rattle.geometry.proofs.PointOrder.{before_not_back, before_later}
+use Rattle.geometry.proofs.Segments.{on_line, on_seg, end_on, end_p, end_q, ahead, within}
+use Rattle.geometry.proofs.Parts.{det_turned}
+use Rattle.plane.specs.Sides.{IsOnLine}
+use Rattle.plane.proofs.Crossed.{crossing, crossing_itself}
+use Rattle.edits.specs.Rays.{OnRay, RunsAlong, MeetsRay}
+use Rattle.edits.specs.Sights.{Sees}
+use Rattle.edits.specs.declared.sight.Sight.TheVariants as sight
+use Rattle.edits.proofs.OneEar.{dir_on, on_parallel}
+use Rattle.edits.proofs.Overlapping.{not_after_before}
+use Rattle.edits.proofs.RaySides.{dir_apart, leads_on, leads_back, ray_on, ray_back, opposite_half}
+use Rattle.edits.proofs.Running.{starts_runs}
+use Rattle.edits.proofs.RunningBack.{starts_runs_back}
+use Rattle.edits.proofs.RayTold.{not_below_zero, not_above_zero}
+use Rattle.edits.proofs.RayOrder.{Half, half_of, on_ray_or, runs_early}
+use Rattle.edits.proofs.HalfPlanes.{Weighed, up_first, up_second, turned, along_ray}
+
+det_fore : (w v : ExactPoint) → minus (det v w) ≡ det w v
+det_fore w v = sym (det_turned w v)
+
+-- the ray leads to the line through p in direction j
+abbrev pub Faces : ExactPoint → ℕ → ExactPoint → ℕ → Type 0
+Faces start k p j = SameSide (cross (vector j) p start) (det (vector k) (vector j))
+
+-- both ends of s are on one side of the line of the ray
+abbrev pub IsBeside : ExactSegment → ExactPoint → ℕ → Type 0
+IsBeside s start k = SameSide (cross (vector k) start s.p) (cross (vector k) start s.q)
+
+-- a point of the ray on a line to which it is not parallel
+faces : (start r p : ExactPoint) (k j : ℕ) → det (vector j) (vector k) ≢ count 0 → OnRay start k r → On (vector j) p r → Faces start k p j
+faces start r p k j n ray on = elim (sign_of (det (vector j) (vector k))) [
+  | inl d ↦ elim (sign_of (cross (vector j) p start)) [
+    | inl x ↦ absurd (none (up_first _ _ _ (along_ray j k p start r ray) x (inl d)))
+    | inr e ↦ elim e [
+      | inl z ↦ absurd (none (up_second _ _ _ (along_ray j k p start r ray) (inr z) d))
+      | inr m ↦ inr (m, subst Above (sym (det_fore (vector j) (vector k))) d)
+    ]
+  ]
+  | inr e ↦ elim e [
+    | inl z ↦ absurd (n z)
+    | inr d ↦ inl (up_second _ _ _ (turned _ _ _ (along_ray j k p start r ray)) (inr on.on) d, subst Above (sym (det_turned (vector k) (vector j))) d)
+  ]
+]
+  where
+    none : ¬ Above (cross (vector j) p r)
+    none = not_above_zero (cross (vector j) p r) on.on
+
+-- the common point of both lines is on the ray where it leads there
+faces_ahead : (start c p : ExactPoint) (k j : ℕ) → k < 16 → Faces start k p j → On (vector k) start c → On (vector j) p c → OnRay start k c
+faces_ahead start c p k j small h line on = elim (on_ray_or k start c small line) [
+  | inl r ↦ r
+  | inr e ↦ elim e [
+    | inl s ↦ absurd (here (on_trans (vector j) p c start on (on_back (vector j) start c (on_same (vector j) start c s))).on h)
+    | inr r ↦ absurd (behind (along_ray j k p c start r) h)
+  ]
+]
+  where
+    here : cross (vector j) p start ≡ count 0 → ¬ Faces start k p j
+    here z (inl x) = not_above_zero (cross (vector j) p start) z x.0
+    here z (inr x) = not_below_zero (cross (vector j) p start) z x.0
+
+    behind : Weighed (cross (vector j) p start) (cross (vector j) p c) (det (vector j) (vector k)) → ¬ Faces start k p j
+    behind w (inl x) = not_above_zero (cross (vector j) p c) on.on (up_first _ _ _ (turned _ _ _ w) x.0 (inl (subst Above (det_turned (vector k) (vector j)) x.1)))
+    behind w (inr x) = above_not_minus (cross (vector j) p start) (up_second _ _ _ w (inr on.on) (subst Above (det_fore (vector j) (vector k)) x.1)) x.0
+
+-- a point that the ray and the segment have in common
+pub across_none : (start : ExactPoint) (k j : ℕ) (s : ExactSegment) → k < 16 → Along s j → k % 8 ≢ j % 8 → (¬ Faces start k s.p j) ⊎ IsBeside s start k → (r : ExactPoint) → OnRay start k r → ¬ OnSeg r s
+across_none start k j s small a n h r ray on = elim h [
+  | inl f ↦ f (faces start r s.p k j (not_parallel k j small a.small n) ray (on_line s j r a on))
+  | inr b ↦ (within (vector j) (vector k) s.p s.q start r (ahead s j a) (not_parallel j k a.small small (λ e. n (sym e))) a.ordered (end_on s j a) (on_line s j r a on) (dir_on start r k ray)).1 (on.from, on.to) b
+]
+
+-- the ray crosses the segment
+pub across_meets : (start : ExactPoint) (k j : ℕ) (s : ExactSegment) (c : ExactPoint) → k < 16 → Along s j → k % 8 ≢ j % 8 → Faces start k s.p j → ¬ IsBeside s start k → On (vector k) start c → On (vector j) s.p c → MeetsRay start k s c
+across_meets start k j s c small a n f b line on = record {
+  ray = faces_ahead start c s.p k j small f line on;
+  here = (let x = (within (vector j) (vector k) s.p s.q start c (ahead s j a) (not_parallel j k a.small small (λ e. n (sym e))) a.ordered (end_on s j a) on line).0 b in on_seg s j c a on x.0 x.1);
+  only = λ u ray here. one_point (vector k) (vector j) u c (not_parallel k j small a.small n) (on_from (vector k) start u c (dir_on start u k ray) line) (on_from (vector j) s.p u c (on_line s j u a here) on);
+}
+
+-- what is held, by other numbers
+held_as : (v u : ExactPoint) → SamePoint v u → IsPointCanonical v → IsPointRepresentable u
+held_as v u s c = ((v.x, same_turned v.x u.x s.x, c.0), (v.y, same_turned v.y u.y s.y, c.1))
+
+abbrev pub IsIt : ExactSegment → ExactSegment → Type 0
+IsIt s t = t ≡ s
+
+-- a point of the ray before which it does not meet the segment
+pub first_of_it : (start : ExactPoint) (k : ℕ) (s : ExactSegment) (v : ExactPoint) → IsPointCanonical v → OnRay start k v → OnSeg v s → ((r : ExactPoint) → OnRay start k r → OnRay r k v → ¬ OnSeg r s) → Sees start k (IsIt s) (sight.First v)
+first_of_it start k s v c ray on first = (
+  c,
+  record { ray = ray; met = (s, refl, on); first = λ r h l m. first r h l (subst (OnSeg r) m.1 m.2) },
+  λ t e l. l.2 (held_as v l.0 (l.1.only v ray (subst (OnSeg v) (sym e) on)) c),
+)
+
+pub meets_first : (start : ExactPoint) (k : ℕ) (s : ExactSegment) (v : ExactPoint) → k < 16 → IsPointCanonical v → MeetsRay start k s v → Sees start k (IsIt s) (sight.First v)
+meets_first start k s v small c m = first_of_it start k s v c m.ray m.here (λ r h l on. dir_apart r v k small l (m.only r h on))
+
+-- what is met in one point does not run along the ray
+pub met_not_along : (start : ExactPoint) (k : ℕ) (s : ExactSegment) (v : ExactPoint) → k < 16 → MeetsRay start k s v → ¬ RunsAlong start k s
+met_not_along start k s v small m h = (let e = runs_early start v k s small h m.ray in dir_apart e.0 v k small e.2 (m.only e.0 e.1 e.3))
+
+pub meets_lost : (start : ExactPoint) (k : ℕ) (s : ExactSegment) (v : ExactPoint) → k < 16 → ¬ IsPointRepresentable v → MeetsRay start k s v → Sees start k (IsIt s) sight.OutOfRange
+meets_lost start k s v small n m = ((s, refl, (v, m, n)), λ t e h. met_not_along start k s v small m (subst (RunsAlong start k) e h))
+
+pub none_of_it : (start : ExactPoint) (k : ℕ) (s : ExactSegment) → ((r : ExactPoint) → OnRay start k r → ¬ OnSeg r s) → Sees start k (IsIt s) sight.Nothing
+none_of_it start k s n r ray m = n r ray (subst (OnSeg r) m.1 m.2)
+
+-- by the answer of the crossing of lines
+pub across_at : (start : ExactPoint) (k j : ℕ) (s : ExactSegment) (p c : ExactPoint) → k < 16 → Along s j → k % 8 ≢ j % 8 → p ≡ s.p → Faces start k p j → ¬ IsBeside s start k → IsPointCanonical c → IsOnLine start k c × IsOnLine p j c → Sees start k (IsIt s) (sight.First c)
+across_at start k j s p c small a n e f b held on = meets_first start k s c small held (across_meets start k j s c small a n (subst (λ z. Faces start k z j) e f) b ((turn_on k start c).0 on.0) ((turn_on j s.p c).0 (subst (λ z. IsOnLine z j c) e on.1)))
+
+pub across_lost : (start : ExactPoint) (k j : ℕ) (s : ExactSegment) (p : ExactPoint) → k < 16 → Along s j → k % 8 ≢ j % 8 → p ≡ s.p → Faces start k p j → ¬ IsBeside s start k → ((c : ExactPoint) → IsOnLine start k c → IsOnLine p j c → ¬ IsPointRepresentable c) → Sees start k (IsIt s) sight.OutOfRange
+across_lost start k j s p small a n e f b none =
+    let c = crossing k j start s.p in
+    let on = crossing_itself k j start s.p small a.small n in
+    meets_lost start k s c small (none c ((turn_on k start c).1 on.0) (subst (λ z. IsOnLine z j c) (sym e) ((turn_on j s.p c).1 on.1))) (across_meets start k j s c small a n (subst (λ z. Faces start k z j) e f) b on.0 on.1)
+
+-- Of a segment that is parallel to the ray, the nearer end.
+pub on_first : (start : ExactPoint) (k : ℕ) (s : ExactSegment) (v : ExactPoint) (j : ℕ) → k < 16 → (k < 5) ⊎ (12 < k) → Along s j → v ≡ s.p → IsPointCanonical v → OnRay start k v → Sees start k (IsIt s) (sight.First v)
+on_first start k s v j small half a e c ray = first_of_it start k s v c ray (subst (λ z. OnSeg z s) (sym e) (end_p s j a)) (λ r h l on. on.from (subst (Before r) e (leads_on r v k small half l)))
+
+pub back_first : (start : ExactPoint) (k : ℕ) (s : ExactSegment) (v : ExactPoint) (j : ℕ) → 5 ≤ k → k ≤ 12 → Along s j → v ≡ s.q → IsPointCanonical v → OnRay start k v → Sees start k (IsIt s) (sight.First v)
+back_first start k s v j low high a e c ray = first_of_it start k s v c ray (subst (λ z. OnSeg z s) (sym e) (end_q s j a)) (λ r h l on. on.to (subst (λ z. Before z r) e (leads_back r v k low high l)))
+
+pub on_none : (start : ExactPoint) (k j : ℕ) (s : ExactSegment) → k < 16 → (k < 5) ⊎ (12 < k) → Along s j → j % 8 ≡ k % 8 → ¬ RunsAlong start k s → ¬ OnRay start k s.p → (r : ExactPoint) → OnRay start k r → ¬ OnSeg r s
+on_none start k j s small half b e runs n r ray on = runs (starts_runs start k s half (record { along = a; on = on_seg s k start a (on_back (vector k) start s.p line) not_front (λ x. before_not_back start s.q ahead x); ahead = ahead }))
+  where
+    a : Along s k
+    a = subst (λ z. Along s z) (one_direction j k b.small small (along_half s j b) half e) b
+
+    there : On (vector k) start r × Before start r
+    there = (ray_on start r k small half).0 ray
+
+    line : On (vector k) start s.p
+    line = on_trans (vector k) start r s.p there.0 (on_back (vector k) s.p r (on_line s k r a on))
+
+    ahead : Before start s.q
+    ahead = before_later start r s.q there.1 on.to
+
+    not_front : ¬ Before start s.p
+    not_front x = n ((ray_on start s.p k small half).1 (line, x))
+
+pub back_none : (start : ExactPoint) (k j : ℕ) (s : ExactSegment) → 5 ≤ k → k ≤ 12 → Along s j → j % 8 ≡ k % 8 → ¬ RunsAlong start k s → ¬ OnRay start k s.q → (r : ExactPoint) → OnRay start k r → ¬ OnSeg r s
+back_none start k j s low high b e runs n r ray on = runs (starts_runs_back start k s low high (record { along = a; on = on_seg s ((k + 8) % 16) start a (on_back (vector ((k + 8) % 16)) start s.p (turned_line s.p line)) (λ x. before_not_back s.p start ahead x) not_behind; ahead = ahead }))
+  where
+    a : Along s ((k + 8) % 16)
+    a = subst (λ z. Along s z) (one_direction j ((k + 8) % 16) b.small (omega arith) (along_half s j b) (opposite_half k low high) (omega (arith, e))) b
+
+    there : On (vector k) start r × Before r start
+    there = (ray_back start r k low high).0 ray
+
+    turned_line : (z : ExactPoint) → On (vector k) start z → On (vector ((k + 8) % 16)) start z
+    turned_line z h = on_parallel k ((k + 8) % 16) start z (omega (arith, high)) (omega arith) (omega arith) h
+
+    to_p : On (vector k) r s.p
+    to_p = on_parallel ((k + 8) % 16) k r s.p (omega arith) (omega (arith, high)) (omega arith) (on_back (vector ((k + 8) % 16)) s.p r (on_line s ((k + 8) % 16) r a on))
+
+    line : On (vector k) start s.p
+    line = on_trans (vector k) start r s.p there.0 to_p
+
+    to_q : On (vector k) start s.q
+    to_q = on_trans (vector k) start s.p s.q line (on_parallel ((k + 8) % 16) k s.p s.q (omega arith) (omega (arith, high)) (omega arith) (end_on s ((k + 8) % 16) a))
+
+    ahead : Before s.p start
+    ahead = not_after_before s.p r start on.from there.1
+
+    not_behind : ¬ Before s.q start
+    not_behind x = n ((ray_back start s.q k low high).1 (to_q, x))
+
+-- by the nearer end, whichever it is
+pub parallel_first : (start : ExactPoint) (k j : ℕ) (s : ExactSegment) (v : ExactPoint) → k < 16 → Along s j → ((k < 5) ⊎ (12 < k) → v ≡ s.p) → (5 ≤ k → k ≤ 12 → v ≡ s.q) → IsPointCanonical v → OnRay start k v → Sees start k (IsIt s) (sight.First v)
+parallel_first start k j s v small a f g c ray = elim (half_of k) [
+  | Half.leads_on half ↦ on_first start k s v j small half a (f half) c ray
+  | Half.leads_back low high ↦ back_first start k s v j low high a (g low high) c ray
+]
+
+pub parallel_none : (start : ExactPoint) (k j : ℕ) (s : ExactSegment) (v : ExactPoint) → k < 16 → Along s j → j % 8 ≡ k % 8 → ¬ RunsAlong start k s → ((k < 5) ⊎ (12 < k) → v ≡ s.p) → (5 ≤ k → k ≤ 12 → v ≡ s.q) → ¬ OnRay start k v → Sees start k (IsIt s) sight.Nothing
+parallel_none start k j s v small a e runs f g n = none_of_it start k s (elim (half_of k) [
+  | Half.leads_on half ↦ on_none start k j s small half a e runs (λ h. n (subst (OnRay start k) (sym (f half)) h))
+  | Half.leads_back low high ↦ back_none start k j s low high a e runs (λ h. n (subst (OnRay start k) (sym (g low high)) h))
+])

@@ -1,0 +1,8 @@
+use Rattle.std.proofs.Common.{◌≡◌, ◌++◌, List}
+use Rattle.exact.specs.Plane.{ExactSegment}
+use Rattle.sheet.specs.Pattern.{ExactCrease}
+use Rattle.edits.specs.Rays.{RunsAlong, IsCrease}
+use Rattle.edits.proofs.bisect.has_crease.Given as goal
+
+abbrev pub invariant-loop-crease : goal.invariant-loop-crease
+invariant-loop-crease l = (done : List ExactCrease) × (done ++ l.crease-iterator ≡ l.pattern) × ((s : ExactSegment) → IsCrease done s → ¬ RunsAlong l.at l.dir s)

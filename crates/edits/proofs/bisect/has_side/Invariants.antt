@@ -1,0 +1,9 @@
+use Rattle.std.proofs.Common.{◌≡◌, take}
+use Rattle.std.specs.Prelude.{Contains}
+use Rattle.exact.specs.Plane.{ExactSegment}
+use Rattle.sheet.specs.Sheet.{sides}
+use Rattle.edits.specs.Rays.{RunsAlong}
+use Rattle.edits.proofs.bisect.has_side.Given as goal
+
+abbrev pub invariant-loop-side : goal.invariant-loop-side
+invariant-loop-side l = (l.side-items ≡ sides) × ((s : ExactSegment) → Contains (take l.side-index sides) s → ¬ RunsAlong l.at l.dir s)

@@ -1,0 +1,10 @@
+use Rattle.std.proofs.Common.{take}
+use Rattle.edits.specs.Drafts.{IsDraft}
+use Rattle.edits.specs.Pieces.{IsPiece, AllReplaced}
+use Rattle.edits.proofs.draft.Draft.cut_all.Given as goal
+
+abbrev pub invariant-loop-crease : goal.invariant-loop-crease
+invariant-loop-crease l = record {
+  replaced : AllReplaced (IsPiece l.seg) l.fn.self (take l.crease-index l.overlapped) l.self;
+  draft : IsDraft l.self;
+}

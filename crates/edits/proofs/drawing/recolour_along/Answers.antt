@@ -1,0 +1,25 @@
+use Rattle.std.proofs.Common.{refl, inl}
+use Rattle.pattern.proofs.Told.{refuted, shown}
+use Rattle.edits.specs.Rules.{Gives, Then}
+use Rattle.edits.specs.CreaseSet.{AreCreases}
+use Rattle.edits.specs.Drawn.{Counted}
+use Rattle.edits.specs.Erase.{IsBare}
+use Rattle.edits.specs.Recolour.{StandsRecoloured}
+use Rattle.edits.specs.declared.refusal.EditBad.TheVariants as bad
+use Rattle.edits.proofs.Answering.{then_ok, then_err, unless_ok, unless_err}
+use Rattle.edits.proofs.drawing.recolour_along.Goals as goal
+
+pub returns-then-branch-clause-err : goal.returns-then-branch-clause-err
+returns-then-branch-clause-err c = inl (shown c.in_ok-is_bare.field-0 c.if-branch.true c.in_ok-is_bare.ensures, refl)
+
+pub returns-clause-ok : goal.returns-clause-ok
+returns-clause-ok c =
+    let Left = Gives (AreCreases (StandsRecoloured c.args.draft.now c.args.seg.now c.args.colour)) in
+    unless_ok (IsBare c.args.draft.now c.args.seg.now) bad.NoCrease (Then Left Counted) c.count.result c.recolour.new.self (refuted c.in_ok-is_bare.field-0 c.if-branch.false c.in_ok-is_bare.ensures)
+    (then_ok Left Counted c.count.result c.recolour.new.self c.recolour.new.self c.in_ok-recolour.ensures c.count.ensures.ok)
+
+pub returns-clause-err : goal.returns-clause-err
+returns-clause-err c =
+    let Left = Gives (AreCreases (StandsRecoloured c.args.draft.now c.args.seg.now c.args.colour)) in
+    unless_err (IsBare c.args.draft.now c.args.seg.now) bad.NoCrease (Then Left Counted) c.count.result (refuted c.in_ok-is_bare.field-0 c.if-branch.false c.in_ok-is_bare.ensures)
+    (then_err Left Counted c.count.result c.recolour.new.self c.in_ok-recolour.ensures c.count.ensures.err)
