@@ -1,5 +1,10 @@
 -- Sources and sinks in memory as plain data.
-use Rattle.std.specs.Prelude.{◌≡◌, ℕ, ◌+◌, ◌-◌, ◌^◌, min, List}
+use Rattle.std.specs.Prelude.{◌≡◌, ℕ, ◌+◌, ◌-◌, ◌^◌, min, List, Result, Ok, Err}
+
+-- Which calls fail, by their numbers, and how many were made.
+pub record CallsState : Type 0 where
+  pub fail : List ℕ
+  pub made : ℕ
 
 -- A source in memory: what is left, how much a call gives at most, which calls fail, and the calls and faults so far.
 pub record SourceState : Type 0 where
@@ -17,9 +22,14 @@ pub record SinkState : Type 0 where
   pub calls : ℕ
   pub faults : ℕ
 
--- the next number of a counter that stands still at its type's end
+-- The number of the next call. It stands still at 2^128 - 1, which no run reaches; past 2^64 - 1 it is in no list of u64.
 abbrev pub counted : ℕ → ℕ
-counted n = min (n + 1) (2 ^ 64 - 1)
+counted n = min (n + 1) (2 ^ 128 - 1)
+
+-- the count of faults rose in a call that failed, and stays in one that did not
+abbrev pub CountsFault : {T E : Type 0} → ℕ → ℕ → Result T E → Type 0
+CountsFault old new (Ok x) = new ≡ old
+CountsFault old new (Err e) = new ≡ counted old
 
 -- the call was counted, and how the source answers its calls stays as it was
 pub record KeepsPlan (old new : SourceState) : Type 0 where

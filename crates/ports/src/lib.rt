@@ -1,6 +1,7 @@
 //! Streams of bytes in and out, a counter of steps, and how a call ends that wants memory.
 #![tactic(auto)]
 
+mod calls;
 mod listed;
 mod memory;
 mod standard;
@@ -10,6 +11,7 @@ mod streams;
 #[cfg(test)]
 mod tests;
 
+pub use calls::Calls;
 pub use listed::Listed;
 pub use memory::{MemSink, MemSource};
 pub use standard::{StdSink, StdSource};

@@ -1,9 +1,9 @@
 //! A source and a sink in memory, with calls that fail at numbers of choice.
 ghost use Rattle.std.specs.Prelude.{◌≡◌, ◌≤◌, ◌<◌, ◌+◌, [], Some, vec_capacity, IsErr, IfOk, ◌↔◌, Contains, ◌⊎◌, length, refl};
 ghost use Rattle.ports.specs.Streams.{Alone, Takes, Puts, HasCause};
-ghost use Rattle.ports.specs.Memory.{counted, KeepsPlan, KeepsRoom};
+ghost use Rattle.ports.specs.Memory.{counted, CountsFault, KeepsPlan, KeepsRoom};
 
-use crate::{Failed, Sink, Source};
+use crate::{Calls, Failed, Sink, Source};
 use std::marker::Model;
 
 /// A source in memory, which tells what is left.
@@ -12,9 +12,8 @@ pub struct MemSource {
     bytes: Vec<u8>,
     at: usize,
     chunk: usize,
-    fail: Vec<u64>,
-    calls: u64,
-    faults: u64,
+    calls: Calls,
+    faults: u128,
 }
 
 impl Model for MemSource {
@@ -23,7 +22,7 @@ impl Model for MemSource {
 
     ghost Value = { SourceState };
 
-    ghost view = { λ s. record { left = drop s.at s.bytes.items; chunk = s.chunk; fail = s.fail.items; calls = s.calls; faults = s.faults } };
+    ghost view = { λ s. record { left = drop s.at s.bytes.items; chunk = s.chunk; fail = s.calls.fail; calls = s.calls.made; faults = s.faults } };
 
     ghost invariant = { λ s. (s.at ≤ length s.bytes.items) × (0 < s.chunk) };
 }
@@ -39,8 +38,7 @@ impl MemSource {
             bytes,
             at: 0,
             chunk,
-            fail,
-            calls: 0,
+            calls: Calls::new(fail),
             faults: 0,
         }
     }
@@ -58,10 +56,10 @@ impl Source for MemSource {
         ensures cause { HasCause self.old.faults self.new.faults result }
         ensures failed { IsErr result ↔ Contains self.old.fail (counted self.old.calls) }
         ensures chunk { IfOk result (λ count. count ≤ self.old.chunk) }
+        ensures counts { CountsFault self.old.faults self.new.faults result }
         ensures stays { KeepsPlan self.old self.new }
     {
-        self.calls = self.calls.saturating_add(1);
-        if self.fail.contains(&self.calls) {
+        if self.calls.next_fails() {
             self.faults = self.faults.saturating_add(1);
             return Err(Failed);
         }
@@ -78,9 +76,8 @@ impl Source for MemSource {
 pub struct MemSink {
     bytes: Vec<u8>,
     room: usize,
-    fail: Vec<u64>,
-    calls: u64,
-    faults: u64,
+    calls: Calls,
+    faults: u128,
 }
 
 impl Model for MemSink {
@@ -90,7 +87,7 @@ impl Model for MemSink {
 
     ghost Value = { SinkState };
 
-    ghost view = { λ s. record { held = s.bytes.items; room = s.room; fail = s.fail.items; calls = s.calls; faults = s.faults } };
+    ghost view = { λ s. record { held = s.bytes.items; room = s.room; fail = s.calls.fail; calls = s.calls.made; faults = s.faults } };
 
     ghost invariant = { λ s. s.room ≤ vec_capacity s.bytes };
 }
@@ -105,8 +102,7 @@ impl MemSink {
         MemSink {
             bytes,
             room,
-            fail,
-            calls: 0,
+            calls: Calls::new(fail),
             faults: 0,
         }
     }
@@ -130,10 +126,10 @@ impl Sink for MemSink {
         ensures bytes { Puts (Some self.old.held) (Some self.new.held) piece.now result }
         ensures cause { HasCause self.old.faults self.new.faults result }
         ensures failed { IsErr result ↔ (Contains self.old.fail (counted self.old.calls) ⊎ (self.old.room < length self.old.held + length piece.now)) }
+        ensures counts { CountsFault self.old.faults self.new.faults result }
         ensures stays { KeepsRoom self.old self.new }
     {
-        self.calls = self.calls.saturating_add(1);
-        if self.fail.contains(&self.calls)
+        if self.calls.next_fails()
             || self.room < self.bytes.len()
             || self.room - self.bytes.len() < piece.len()
         {

@@ -15,8 +15,10 @@ pub struct StdSource<'a> {
 }
 
 impl<'a> StdSource<'a> {
-    /// The standard input of the process.
-    pub fn new(rt: &'a HostRuntime) -> StdSource<'a> {
+    /// The standard input of the process, with no fault so far.
+    pub fn new(rt: &'a HostRuntime) -> StdSource<'a>
+        ensures { ⟦<StdSource<'a> as Source>⟧.faults result ≡ 0 }
+    {
         StdSource {
             input: rt.stdin(),
             runtime: PhantomData,
@@ -57,8 +59,10 @@ pub struct StdSink<'a> {
 }
 
 impl<'a> StdSink<'a> {
-    /// The standard output of the process.
-    pub fn new(rt: &'a HostRuntime) -> StdSink<'a> {
+    /// The standard output of the process, with no fault so far.
+    pub fn new(rt: &'a HostRuntime) -> StdSink<'a>
+        ensures { ⟦<StdSink<'a> as Sink>⟧.faults result ≡ 0 }
+    {
         StdSink {
             output: rt.stdout(),
             runtime: PhantomData,

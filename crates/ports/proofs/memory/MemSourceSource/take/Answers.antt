@@ -15,9 +15,9 @@ ended items at h = grind (arith, common_steps)
 -- src/memory.rt:53:5
 pub returns-clause-bytes : goal.returns-clause-bytes
 returns-clause-bytes c =
-    let long : c.min-count.result + c.self.inside.at ≤ length c.self.inside.bytes.items = grind (arith, common_steps, c.min-count.ensures, c.min.ensures, c.deref-2.ensures.value, c.self.invariant) in
+    let long : c.min-count.result + c.self.inside.at ≤ length c.self.inside.bytes.items = grind (arith, common_steps, c.min-count.ensures, c.min.ensures, c.deref.ensures.value, c.self.invariant) in
     record {
       bound = omega (arith, c.min-count.ensures, c.min.ensures);
-      front = ap (λ s. s.left) (sym c.self.view_is) ∙ moved c.self.inside.bytes.items c.copy_from_slice.new.self _ c.self.inside.at _ (grind (arith, common_steps, c.copy_from_slice.ensures.after, c.deref-2.ensures.value)) long;
-      ends = λ h z. ap (λ s. s.left) (sym c.self.view_is) ∙ ended c.self.inside.bytes.items c.self.inside.at (grind (arith, common_steps, c.min-count.ensures, c.min.ensures, c.deref-2.ensures.value, c.self.invariant));
+      front = ap (λ s. s.left) (sym c.self.view_is) ∙ moved c.self.inside.bytes.items c.copy_from_slice.new.self _ c.self.inside.at _ (grind (arith, common_steps, c.copy_from_slice.ensures.after, c.deref.ensures.value)) long;
+      ends = λ h z. ap (λ s. s.left) (sym c.self.view_is) ∙ ended c.self.inside.bytes.items c.self.inside.at (grind (arith, common_steps, c.min-count.ensures, c.min.ensures, c.deref.ensures.value, c.self.invariant));
     }
