@@ -1,8 +1,8 @@
 -- A crimp undone: an order of the sectors after the crimp, with the crimped sector spread to three, keeps the rules before it.
 use Rattle.std.proofs.Common.{◌≡◌, ◌≢◌, ◌≤◌, ◌<◌, ◌+◌, ◌%◌, ℕ, arith, refl, ap, sym, ◌∙◌, ◌⊎◌, inl, inr}
 use Rattle.std.specs.Prelude.{◌↔◌, ℤ}
-use Rattle.layers.specs.declared.mark.Mark.{Mark}
-use Rattle.layers.specs.declared.mark.Mark.TheVariants as kind
+use Rattle.sheet.specs.declared.mark.Mark.{Mark}
+use Rattle.sheet.specs.declared.mark.Mark.TheVariants as kind
 use Rattle.crimp.specs.Rules.{Between, Inside, Agrees, Rules}
 use Rattle.std.proofs.lemmas.Bool.{cases_eq, cases_lt}
 use Rattle.crimp.proofs.Places.{Folded, inside_moved, between_moved, whole_first, whole_second, whole_third, end_first, end_second, start_second, start_third}

@@ -5,7 +5,7 @@ use Rattle.std.specs.List.{insert}
 use Rattle.std.proofs.lemmas.Int.{ints}
 use Rattle.std.proofs.lemmas.Bool.{cases_eq}
 use Rattle.std.proofs.lemmas.List.{length-append}
-use Rattle.layers.specs.declared.mark.Mark.{Mark}
+use Rattle.sheet.specs.declared.mark.Mark.{Mark}
 use Rattle.crimp.specs.declared.entries.Entry.{Entry}
 use Rattle.layers.specs.LayerOrder.{height, before}
 use Rattle.crimp.specs.Cyclic.{In, Follows, Linked, Distinct}

@@ -1,7 +1,7 @@
 -- Cyclic lists: turning, and a crimp at the front.
 use Rattle.std.proofs.Common.{◌≡◌, ◌≢◌, ◌%◌, ℕ, arith, refl, subst, ap, sym, ◌∙◌, ◌⊎◌, inl, inr, List, [], ◌∷◌, ◌++◌}
 use Rattle.std.specs.Prelude.{ℤ}
-use Rattle.layers.specs.declared.mark.Mark.{Mark}
+use Rattle.sheet.specs.declared.mark.Mark.{Mark}
 use Rattle.crimp.specs.Rules.{Rules}
 use Rattle.crimp.specs.Cyclic.{In, Follows, Linked, Distinct}
 use Rattle.crimp.proofs.Places.{Folded}

@@ -1,7 +1,7 @@
 -- What the crimping of the entries says of the sectors.
 use Rattle.std.proofs.Common.{◌≡◌, ◌≤◌, ℕ, arith, subst, ap, sym, ◌∙◌, List, length, map}
 use Rattle.std.specs.Prelude.{ℤ}
-use Rattle.layers.specs.declared.mark.Mark.{Mark}
+use Rattle.sheet.specs.declared.mark.Mark.{Mark}
 use Rattle.layers.specs.declared.sector_list.Sector.{Sector}
 use Rattle.layers.specs.Sectors.{AreSectors}
 use Rattle.layers.specs.LayerOrder.{ClosesUp, IsLayerOrder}

@@ -4,7 +4,7 @@ use Rattle.std.specs.Prelude.{IfSome}
 use Rattle.std.specs.List.{remove}
 use Rattle.std.proofs.lemmas.Bool.{cases_lt, cases_eq}
 use Rattle.std.proofs.lemmas.List.{length-map, get_or_default, ext_get_or}
-use Rattle.layers.specs.declared.mark.Mark.TheVariants as kind
+use Rattle.sheet.specs.declared.mark.Mark.TheVariants as kind
 use Rattle.layers.specs.declared.sector_list.Sector.{Sector}
 use Rattle.layers.specs.Sectors.{sector_at, behind, AreSectors}
 use Rattle.layers.specs.LayerOrder.{before, ClosesUp}

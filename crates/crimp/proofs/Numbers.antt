@@ -1,7 +1,7 @@
 -- The list with which `reduce` begins.
 use Rattle.std.proofs.Common.{◌≡◌, ◌≤◌, ◌<◌, ◌+◌, ◌%◌, ℕ, zero, suc, arith, refl, subst, ap, sym, ◌∙◌, List, [], ◌∷◌, ◌++◌, length, take}
 use Rattle.std.specs.Prelude.{ℤ, pos}
-use Rattle.layers.specs.declared.mark.Mark.{Mark}
+use Rattle.sheet.specs.declared.mark.Mark.{Mark}
 use Rattle.crimp.specs.declared.entries.Entry.{Entry}
 use Rattle.layers.specs.declared.sector_list.Sector.{Sector}
 use Rattle.layers.specs.Sectors.{sector_at}

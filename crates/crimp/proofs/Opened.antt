@@ -3,8 +3,8 @@ use Rattle.std.proofs.Common.{◌≡◌, ◌≢◌, ◌<◌, ◌+◌, ◌%◌, �
 use Rattle.std.specs.Prelude.{◌↔◌, ℤ, pos, negsuc, ◌<ℤ◌, ◌≤ℤ◌}
 use Rattle.std.proofs.lemmas.Int.{ints}
 use Rattle.std.proofs.lemmas.Bool.{cases_eq, cases_order}
-use Rattle.layers.specs.declared.mark.Mark.{Mark}
-use Rattle.layers.specs.declared.mark.Mark.TheVariants as kind
+use Rattle.sheet.specs.declared.mark.Mark.{Mark}
+use Rattle.sheet.specs.declared.mark.Mark.TheVariants as kind
 use Rattle.crimp.specs.Rules.{Between, Inside, Agrees, Rules}
 use Rattle.crimp.proofs.Places.{inside_moved, between_moved}
 use Rattle.crimp.proofs.Pockets.{LeftView, LUnder, LSelf, LPocket, LOver, RightView, RUnder, RPocket, RSelf, ROver, Moved, MUnder, MRight, MLeft, MOver, Class, CUnder, CLow, CHigh, COver, left_less, left_between_back, left_both, right_less, right_between_back, right_both, class_less, class_less_turned, class_back, class_self, class_both, On, left_off, right_off, off_both, on_both, pocket, beside}

@@ -3,8 +3,8 @@ use Rattle.std.proofs.Common.{◌≡◌, ◌≢◌, ◌≤◌, ◌<◌, ◌+◌,
 use Rattle.std.specs.Prelude.{◌↔◌, ℤ, ◌<ℤ◌, ◌≤ℤ◌}
 use Rattle.std.proofs.lemmas.Int.{ints}
 use Rattle.std.proofs.lemmas.Bool.{cases_eq, cases_lt, cases_Bool, eqb-true}
-use Rattle.layers.specs.declared.mark.Mark.{Mark}
-use Rattle.layers.specs.declared.mark.Mark.TheVariants as kind
+use Rattle.sheet.specs.declared.mark.Mark.{Mark}
+use Rattle.sheet.specs.declared.mark.Mark.TheVariants as kind
 use Rattle.crimp.specs.Rules.{Between, Inside, Agrees, Rules}
 use Rattle.crimp.specs.Crimping.{Opposite}
 use Rattle.crimp.proofs.Places.{inside_moved}

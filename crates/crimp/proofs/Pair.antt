@@ -1,8 +1,8 @@
 -- Two sectors whose creases have one mark.
 use Rattle.std.proofs.Common.{◌≡◌, ◌≢◌, ◌<◌, ◌+◌, ◌%◌, ℕ, arith, refl, ap, sym, ◌∙◌, inl, inr, List, [], ◌∷◌, length}
 use Rattle.std.specs.Prelude.{ℤ}
-use Rattle.layers.specs.declared.mark.Mark.{Mark}
-use Rattle.layers.specs.declared.mark.Mark.TheVariants as kind
+use Rattle.sheet.specs.declared.mark.Mark.{Mark}
+use Rattle.sheet.specs.declared.mark.Mark.TheVariants as kind
 use Rattle.crimp.specs.declared.entries.Entry.{Entry}
 use Rattle.crimp.specs.Rules.{Between, Agrees}
 use Rattle.layers.specs.LayerOrder.{height}

@@ -2,8 +2,8 @@
 use Rattle.std.proofs.Common.{◌≡◌, ◌≢◌, ◌≤◌, ◌<◌, ◌+◌, ◌%◌, ℕ, arith, refl, subst, ap, sym, ◌∙◌, ◌⊎◌, inl, inr, List, ◌∷◌, cond, eqb, eq-eqb, ltb, true, false}
 use Rattle.std.specs.Prelude.{ℤ}
 use Rattle.std.proofs.lemmas.Bool.{cases_eq, cases_lt, cases_Bool, eqb-true, ltb-true, lt-ltb}
-use Rattle.layers.specs.declared.mark.Mark.{Mark}
-use Rattle.layers.specs.declared.mark.Mark.TheVariants as kind
+use Rattle.sheet.specs.declared.mark.Mark.{Mark}
+use Rattle.sheet.specs.declared.mark.Mark.TheVariants as kind
 use Rattle.crimp.specs.declared.entries.Entry.{Entry}
 use Rattle.crimp.specs.Rules.{Rules}
 use Rattle.crimp.specs.Cyclic.{In, Linked}

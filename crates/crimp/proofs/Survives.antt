@@ -3,7 +3,7 @@ use Rattle.std.proofs.Common.{◌≡◌, ◌≢◌, ◌≤◌, ◌<◌, ◌%◌,
 use Rattle.std.specs.Prelude.{ℤ, pos, ◌+ℤ◌, ◌-ℤ◌}
 use Rattle.std.proofs.lemmas.Int.{ints}
 use Rattle.std.proofs.lemmas.Bool.{cases_eq, cases_Bool, eqb-true}
-use Rattle.layers.specs.declared.mark.Mark.{Mark}
+use Rattle.sheet.specs.declared.mark.Mark.{Mark}
 use Rattle.crimp.specs.declared.entries.Entry.{Entry}
 use Rattle.crimp.specs.Rules.{Inside, Rules}
 use Rattle.crimp.specs.Cyclic.{In, Follows, Linked, Distinct}

@@ -1,7 +1,7 @@
 -- A layer order of two sectors: their creases have one mark.
 use Rattle.std.proofs.Common.{◌≡◌, ℕ, arith, refl, subst, List, length}
-use Rattle.layers.specs.declared.mark.Mark.{Mark}
-use Rattle.layers.specs.declared.mark.Mark.TheVariants as kind
+use Rattle.sheet.specs.declared.mark.Mark.{Mark}
+use Rattle.sheet.specs.declared.mark.Mark.TheVariants as kind
 use Rattle.crimp.specs.Rules.{Agrees}
 use Rattle.layers.specs.declared.sector_list.Sector.{Sector}
 use Rattle.layers.specs.Sectors.{sector_at}

@@ -3,7 +3,7 @@ use Rattle.std.proofs.Common.{◌≡◌, ◌≤◌, ◌<◌, ◌+◌, ◌%◌, �
 use Rattle.std.proofs.Math.Nat.{mod-lt}
 use Rattle.std.proofs.lemmas.Bool.{cases_order}
 use Rattle.std.proofs.lemmas.List.{length-map}
-use Rattle.layers.specs.declared.mark.Mark.TheVariants as kind
+use Rattle.sheet.specs.declared.mark.Mark.TheVariants as kind
 use Rattle.layers.specs.declared.sector_list.Sector.{Sector}
 use Rattle.layers.specs.Sectors.{sector_at, AreSectors}
 use Rattle.crimp.specs.declared.outcome.Run.{Run}

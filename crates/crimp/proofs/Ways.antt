@@ -1,7 +1,7 @@
 -- Whichever way a list is crimped, it stays foldable or not.
 use Rattle.std.proofs.Common.{◌≡◌, ◌≤◌, ℕ, arith, refl, ap, inl, inr, List, ◌∷◌, length}
 use Rattle.std.specs.Prelude.{◌↔◌}
-use Rattle.layers.specs.declared.mark.Mark.TheVariants as kind
+use Rattle.sheet.specs.declared.mark.Mark.TheVariants as kind
 use Rattle.layers.specs.declared.sector_list.Sector.{Sector}
 use Rattle.layers.specs.Sectors.{sector_at}
 use Rattle.layers.specs.LayerOrder.{before}

@@ -1,8 +1,8 @@
 -- Crimping a cyclic list at one of its entries.
 use Rattle.std.specs.Prelude.{ℕ, ◌+◌, ◌==◌, List, length, cond, slice_index_or, slice_set}
 use Rattle.std.specs.List.{remove}
-use Rattle.layers.specs.declared.mark.Mark.{Mark}
-use Rattle.layers.specs.declared.mark.Mark.TheVariants as mark
+use Rattle.sheet.specs.declared.mark.Mark.{Mark}
+use Rattle.sheet.specs.declared.mark.Mark.TheVariants as mark
 use Rattle.layers.specs.Sectors.{behind}
 use Rattle.layers.specs.LayerOrder.{before}
 

@@ -1,6 +1,6 @@
 -- The cyclic lists of the crimping, numbered from their first entry.
 use Rattle.std.specs.Prelude.{ℕ, ◌+◌, ◌-◌, ◌<◌, ◌≤◌, List, length}
-use Rattle.layers.specs.declared.mark.Mark.TheVariants as mark
+use Rattle.sheet.specs.declared.mark.Mark.TheVariants as mark
 use Rattle.layers.specs.declared.sector_list.Sector.{Sector}
 use Rattle.layers.specs.Sectors.{sector_at, behind}
 pub use Rattle.crimp.specs.Foldable.{Foldable}

@@ -1,7 +1,7 @@
 -- Rules 3 to 5 of a layer order, over any set of sectors and creases.
 -- A sector has a number, and a crease has the number of the sector that it begins.
 use Rattle.std.specs.Prelude.{◌≡◌, ◌≢◌, ℕ, ◌%◌, ◌↔◌, ℤ}
-use Rattle.layers.specs.declared.mark.Mark.{Mark}
+use Rattle.sheet.specs.declared.mark.Mark.{Mark}
 pub use Rattle.layers.specs.LayerOrder.{Between, Inside, AgreesAt, Agrees}
 
 -- Sector a ends at crease b, where sector b begins, for each Link a b. Here are the sectors that are in the order, rank is their height in it,

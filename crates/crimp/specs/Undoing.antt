@@ -1,8 +1,8 @@
 -- How a crimp is undone in an order.
 use Rattle.std.specs.Prelude.{◌≡◌, ℕ, ◌+◌, ◌%◌, List}
 use Rattle.std.specs.List.{insert}
-use Rattle.layers.specs.declared.mark.Mark.{Mark}
-use Rattle.layers.specs.declared.mark.Mark.TheVariants as mark
+use Rattle.sheet.specs.declared.mark.Mark.{Mark}
+use Rattle.sheet.specs.declared.mark.Mark.TheVariants as mark
 use Rattle.layers.specs.LayerOrder.{height}
 
 -- sector p is below the next one, whose crease has this mark

@@ -1,7 +1,7 @@
 //! Crimping a list of sectors, and the order that comes back.
 
 ghost use Rattle.std.specs.Prelude.{◌≡◌, ◌+◌, ◌<◌, ◌≤◌, ◌↔◌, ℕ, ℤ, [], ◌∷◌, length, IsTrue, IsSome, IfSome, IfNone, true, false, cond, ◌==◌, ◌-◌};
-ghost use Rattle.layers.specs.declared.mark.Mark.{Mark as AnyMark};
+ghost use Rattle.sheet.specs.declared.mark.Mark.{Mark as AnyMark};
 ghost use Rattle.crimp.specs.Crimping.{Opposite};
 ghost use Rattle.crimp.specs.Undoing.{IsUp, undone_up, undone_down};
 ghost use Rattle.layers.specs.Sectors.{behind as behind_of};

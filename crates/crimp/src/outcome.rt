@@ -1,7 +1,7 @@
 //! Whether the creases of a vertex fold flat.
 
 ghost use Rattle.std.specs.Prelude.{◌≤◌, ◌↔◌, ℕ, ℤ, IsSome, IfSome};
-ghost use Rattle.layers.specs.declared.mark.Mark.{Mark as AnyMark};
+ghost use Rattle.sheet.specs.declared.mark.Mark.{Mark as AnyMark};
 ghost use Rattle.layers.specs.LayerOrder.{ClosesUp, IsLayerOrder};
 ghost use Rattle.crimp.specs.Cycle.{IsCycle, Layered, numbers_of, total, IsSomeCycle, IsPair, Ends};
 ghost use Rattle.crimp.specs.Foldable.{Foldable};

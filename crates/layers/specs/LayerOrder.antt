@@ -2,8 +2,8 @@
 -- Source: Demaine and O'Rourke, Geometric Folding Algorithms, chapter 12; Hull, Origametry, on flat-folded vertices.
 use Rattle.std.specs.Prelude.{◌≡◌, ◌≢◌, ◌==◌, ℕ, zero, suc, ◌+◌, ◌-◌, ◌<◌, ◌≤◌, ◌%◌, ◌⊎◌, ◌↔◌, List, length, cond, ℤ, pos, ◌+ℤ◌, ◌-ℤ◌, ◌<ℤ◌}
 use Rattle.std.specs.List.{position_or_len}
-use Rattle.layers.specs.declared.mark.Mark.{Mark}
-use Rattle.layers.specs.declared.mark.Mark.TheVariants as mark
+use Rattle.sheet.specs.declared.mark.Mark.{Mark}
+use Rattle.sheet.specs.declared.mark.Mark.TheVariants as mark
 use Rattle.layers.specs.Sectors.{Sector, sector_at}
 
 -- The place of crease i once the paper is folded to a zigzag: even sectors lie face up and go up by their angle, odd ones lie face down and go down.

@@ -1,6 +1,6 @@
 -- The sectors between the rays of a star.
 use Rattle.std.specs.Prelude.{◌≡◌, ◌==◌, ℕ, ◌+◌, ◌<◌, ◌≤◌, ◌%◌, List, length, cond, slice_index_or}
-use Rattle.layers.specs.declared.mark.Mark.TheVariants as mark
+use Rattle.sheet.specs.declared.mark.Mark.TheVariants as mark
 pub use Rattle.layers.specs.declared.sector_list.Sector.{Sector}
 use Rattle.layers.specs.Star.{Ray, ray_at, IsStar}
 

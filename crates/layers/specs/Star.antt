@@ -1,7 +1,7 @@
 -- Stars: the creases that meet at a point, as a list of rays.
 use Rattle.std.specs.Prelude.{ℕ, ◌+◌, ◌<◌, List, length, slice_index_or, Bool, true, false, count_by}
-use Rattle.layers.specs.declared.mark.Mark.{Mark}
-use Rattle.layers.specs.declared.mark.Mark.TheVariants as mark
+use Rattle.sheet.specs.declared.mark.Mark.{Mark}
+use Rattle.sheet.specs.declared.mark.Mark.TheVariants as mark
 pub use Rattle.layers.specs.declared.star.Ray.{Ray}
 
 abbrev pub ray_at : List Ray → ℕ → Ray

@@ -1,13 +1,15 @@
 //! What the sheet of paper is, and a crease pattern on it.
 #![tactic(auto)]
 
-ghost use Rattle.std.specs.Prelude.{◌≡◌};
 ghost use Rattle.sheet.specs.Pattern.{IsPattern};
 
-/// The colour of a crease: a mountain, a valley, or an auxiliary line, which does not fold.
-#[derive(Clone, Copy, Debug, PartialEq, Eq, PartialOrd, Ord, Hash)]
-pub enum Colour {
-    M,
-    V,
-    A,
-}
+mod colour;
+mod mark;
+mod size;
+
+pub use colour::Colour;
+pub use mark::Mark;
+pub use size::Sheet;
+
+/// As many creases may stand in a pattern.
+pub const CREASE_LIMIT: usize = 20_000;

@@ -1,6 +1,6 @@
 use Rattle.std.proofs.Common.{arith, ◌≡◌, ◌<◌, ◌+◌, ◌∙◌, ap, length, ℕ, subst, get_or}
 use Rattle.std.specs.Prelude.{IfSome, ℤ}
-use Rattle.layers.specs.declared.mark.Mark.{Mark}
+use Rattle.sheet.specs.declared.mark.Mark.{Mark}
 use Rattle.layers.specs.LayerOrder.{before}
 use Rattle.layers.specs.Sectors.{behind}
 use Rattle.crimp.specs.Cycle.{Layered, numbers_of, IsCycle, Stop, Crimpable, crimped_at, no_entry}

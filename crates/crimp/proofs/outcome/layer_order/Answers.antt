@@ -1,6 +1,6 @@
 use Rattle.std.proofs.Common.{ℕ, List}
 use Rattle.std.specs.Prelude.{ℤ}
-use Rattle.layers.specs.declared.mark.Mark.{Mark}
+use Rattle.sheet.specs.declared.mark.Mark.{Mark}
 use Rattle.crimp.specs.Cycle.{IsCycle, Layered, numbers_of}
 use Rattle.crimp.proofs.Ending.{if_same}
 use Rattle.crimp.proofs.outcome.layer_order.Goals as goal
