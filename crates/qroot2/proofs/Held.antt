@@ -1,5 +1,5 @@
 -- Signed numbers that pass through a call keep their value.
-use Rattle.std.proofs.Common.{◌≡◌, ◌≤◌, ◌^◌, ℕ, arith, ap, ◌∙◌}
+use Rattle.std.proofs.Common.{◌≡◌, ◌<◌, ◌≤◌, ◌^◌, ℕ, arith, sym, ap, ◌∙◌}
 use Rattle.std.specs.Prelude.{ℤ, pos, neg_ℤ, ◌+ℤ◌, ◌-ℤ◌, ◌*ℤ◌, unsigned_abs}
 use Rattle.std.specs.Int.{cast_signed, cast_unsigned, w64, w128}
 use Rattle.std.proofs.lemmas.Int.{ints, to_z-of_z, to_z_pos, fits_signed_from_abs}
@@ -17,6 +17,10 @@ held_128 z h = to_z-of_z w128 z (fits_signed_from_abs w128 z (omega arith))
 pub held_64 : (z : ℤ) → unsigned_abs z ≤ 2 ^ 62 → through_64 z ≡ z
 held_64 z h = to_z-of_z w64 z (fits_signed_from_abs w64 z (omega arith))
 
+-- a number whose bits are 0 is 0
+pub zero_held : (z : ℤ) → unsigned_abs z ≤ 2 ^ 48 → cast_unsigned w64 z ≡ 0 → z ≡ pos 0
+zero_held z h e = sym (held_64 z (omega arith)) ∙ ap (cast_signed w64) e
+
 pub both_same : {A B C : Type 0} (f : A → B → C) (a a' : A) (b b' : B) → a ≡ a' → b ≡ b' → f a b ≡ f a' b'
 both_same f a a' b b' p q = ap (λ t. f t b) p ∙ ap (f a') q
 
@@ -33,6 +37,18 @@ held_scaled r x d h e = e ∙ ap (λ t. t *ℤ pos d) (held_64 x (omega arith))
 
 pub held_cross : (r x y : ℤ) (d e : ℕ) → unsigned_abs r ≤ 2 ^ 120 → unsigned_abs x ≤ 2 ^ 48 → unsigned_abs y ≤ 2 ^ 48 → r ≡ through_64 x *ℤ pos e -ℤ through_64 y *ℤ pos d → through r ≡ x *ℤ pos e -ℤ y *ℤ pos d
 held_cross r x y d e b h k p = held_128 r (omega arith) ∙ p ∙ both_same (λ s t. s *ℤ pos e -ℤ t *ℤ pos d) _ _ _ _ (held_64 x (omega arith)) (held_64 y (omega arith))
+
+-- a difference, and a sum of two squares, one taken twice
+pub held_minus : (x y : ℤ) → unsigned_abs x ≤ 2 ^ 61 → unsigned_abs y ≤ 2 ^ 61 → through_64 (through_64 x -ℤ through_64 y) ≡ x -ℤ y
+held_minus x y h k = rw (held_64 x (omega arith), held_64 y (omega arith)) (held_64 (x -ℤ y) (omega (arith, ints)))
+
+pub held_twice : (s t : ℤ) → unsigned_abs s < 2 ^ 124 → unsigned_abs t < 2 ^ 124 → through (through s +ℤ through (pos 2 *ℤ through t)) ≡ s +ℤ pos 2 *ℤ t
+held_twice s t h k =
+    rw (held_128 s (omega arith), held_128 t (omega arith), held_128 (pos 2 *ℤ t) (omega (arith, ints)))
+    (held_128 (s +ℤ pos 2 *ℤ t) (omega (arith, ints)))
+
+pub held_narrow_cross : (r x y : ℤ) (d e : ℕ) → unsigned_abs r < 2 ^ 62 → unsigned_abs x ≤ 2 ^ 48 → unsigned_abs y ≤ 2 ^ 48 → r ≡ through_64 x *ℤ pos e -ℤ through_64 y *ℤ pos d → through_64 r ≡ x *ℤ pos e -ℤ y *ℤ pos d
+held_narrow_cross r x y d e b h k p = held_64 r (omega arith) ∙ p ∙ both_same (λ s t. s *ℤ pos e -ℤ t *ℤ pos d) _ _ _ _ (held_64 x (omega arith)) (held_64 y (omega arith))
 
 pub held_plus : (r x y a b : ℤ) → unsigned_abs x ≤ 2 ^ 120 → unsigned_abs y ≤ 2 ^ 120 → r ≡ through x +ℤ through y → x ≡ a → y ≡ b → r ≡ a +ℤ b
 held_plus r x y a b h k e f g = e ∙ both_same ◌+ℤ◌ _ _ _ _ (held_128 x (omega arith) ∙ f) (held_128 y (omega arith) ∙ g)

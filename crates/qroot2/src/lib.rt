@@ -6,6 +6,7 @@ mod laws;
 mod lowest;
 mod num;
 mod sign;
+mod squares;
 #[cfg(test)]
 mod tests;
 mod text;

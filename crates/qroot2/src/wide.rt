@@ -3,6 +3,8 @@ ghost use Rattle.std.specs.Prelude.{◌≡◌, ℕ, ◌+◌, ◌*◌, ◌<◌, �
 ghost use Rattle.qroot2.specs.Wide.{Pair, IsWithin, HasSign, pair_add, pair_sub, pair_neg};
 
 use crate::Sign;
+use crate::squares::by_squares;
+use std::cmp::Ordering;
 use std::marker::Model;
 use std::ops::{Add, Neg, Sub};
 
@@ -55,20 +57,10 @@ impl Wide {
     pub fn sign(&self) -> Sign
         ensures { HasSign self.now.a self.now.b result }
     {
-        let a = self.a.unsigned_abs();
-        let b = self.b.unsigned_abs();
-        if self.a >= 0 && self.b >= 0 {
-            if a == 0 && b == 0 {
-                Sign::Zero
-            } else {
-                Sign::Plus
-            }
-        } else if self.a <= 0 && self.b <= 0 {
-            Sign::Minus
-        } else if above(a, b) == (self.a > 0) {
-            Sign::Plus
+        if self.a.unsigned_abs() < 1 << 62 && self.b.unsigned_abs() < 1 << 62 {
+            sign_by_squares(self.a as i64, self.b as i64)
         } else {
-            Sign::Minus
+            sign_by_descent(self.a, self.b)
         }
     }
 }
@@ -107,7 +99,43 @@ impl Neg for Wide {
     }
 }
 
-/// Whether a is above b √2, for a and b above zero. No square is taken.
+/// The sign of a + b √2, where 128 bits hold the squares.
+fn sign_by_squares(a: i64, b: i64) -> Sign
+    requires a { unsigned_abs a < 2 ^ 62 }
+    requires b { unsigned_abs b < 2 ^ 62 }
+    ensures { HasSign a b result }
+{
+    match by_squares(a, b) {
+        Ordering::Less => Sign::Minus,
+        Ordering::Equal => Sign::Zero,
+        Ordering::Greater => Sign::Plus,
+    }
+}
+
+/// The sign of a + b √2, with no square taken.
+fn sign_by_descent(a: i128, b: i128) -> Sign
+    requires a { unsigned_abs a ≤ 2 ^ 120 }
+    requires b { unsigned_abs b ≤ 2 ^ 120 }
+    ensures { HasSign a b result }
+{
+    let x = a.unsigned_abs();
+    let y = b.unsigned_abs();
+    if a >= 0 && b >= 0 {
+        if x == 0 && y == 0 {
+            Sign::Zero
+        } else {
+            Sign::Plus
+        }
+    } else if a <= 0 && b <= 0 {
+        Sign::Minus
+    } else if above(x, y) == (a > 0) {
+        Sign::Plus
+    } else {
+        Sign::Minus
+    }
+}
+
+/// Whether a is above b √2, for a and b above zero.
 #[tactic(auto, using(crate::proofs::Descent::norm_turns, crate::proofs::Descent::below_root, crate::proofs::Descent::above_root))]
 fn above(a: u128, b: u128) -> bool
     requires a { (0 < a) × (a ≤ 2 ^ 120) }

@@ -8,7 +8,8 @@ ghost use Rattle.std.specs.Cmp.Rules.{comparing};
 ghost use Rattle.std.specs.Ordering.{as_partial_cmp};
 
 use super::Num;
-use super::whole::cross;
+use super::whole::{cross, narrow_cross, scaled};
+use crate::squares::by_squares;
 use crate::{Sign, Wide};
 use std::cmp::Ordering;
 
@@ -26,9 +27,19 @@ impl Ord for Num {
         ensures order { result ≡ num_cmp self.now other.now }
         ensures values { result ≡ real_cmp self.now other.now }
     {
-        let a = cross(self.a, other.a, self.d, other.d);
-        let b = cross(self.b, other.b, self.d, other.d);
-        side(a, b)
+        if self.d == other.d {
+            by_squares(self.a - other.a, self.b - other.b)
+        } else if self.b == 0 && other.b == 0 {
+            scaled(self.a, other.d).cmp(&scaled(other.a, self.d))
+        } else if self.d < 1 << 13 && other.d < 1 << 13 {
+            let a = narrow_cross(self.a, other.a, self.d, other.d);
+            let b = narrow_cross(self.b, other.b, self.d, other.d);
+            by_squares(a, b)
+        } else {
+            let a = cross(self.a, other.a, self.d, other.d);
+            let b = cross(self.b, other.b, self.d, other.d);
+            side(a, b)
+        }
     }
 }
 

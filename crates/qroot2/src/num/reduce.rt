@@ -11,14 +11,18 @@ pub fn with_sign(of: i128, size: u128) -> i64
     if of < 0 { -(size as i64) } else { size as i64 }
 }
 
-/// The three in lowest terms. Nothing is divided where d is 1 or no divisor is common, and no step is
-/// taken over b where b is 0.
+/// The three in lowest terms. Nothing is divided where d is 1 or no divisor is common, and all is done in
+/// 64 bits where these hold the three.
 pub fn lowest(a: u128, b: u128, d: u128) -> (u128, u128, u128)
     requires { 0 < d }
     ensures { Reduces a b d result.0 result.1 result.2 }
 {
     if d == 1 {
         return (a, b, d);
+    }
+    if a < 1 << 64 && b < 1 << 64 && d < 1 << 64 {
+        let (x, y, z) = narrow_lowest(a as u64, b as u64, d as u64);
+        return (u128::from(x), u128::from(y), u128::from(z));
     }
     // The denominator is the smallest of the three, so it comes first.
     let g = gcd(b, gcd(a, d));
@@ -28,16 +32,45 @@ pub fn lowest(a: u128, b: u128, d: u128) -> (u128, u128, u128)
     (a / g, b / g, d / g)
 }
 
-/// The greatest common divisor.
+/// The same of three numbers of 64 bits.
+fn narrow_lowest(a: u64, b: u64, d: u64) -> (u64, u64, u64)
+    requires { 0 < d }
+    ensures { Reduces a b d result.0 result.1 result.2 }
+{
+    let g = narrow_gcd(b, narrow_gcd(a, d));
+    if g == 1 {
+        return (a, b, d);
+    }
+    (a / g, b / g, d / g)
+}
+
+/// The greatest common divisor, in 64 bits as soon as these hold both.
 fn gcd(a: u128, b: u128) -> u128
     ensures { IsGcd a b result }
 {
     let mut x = a;
     let mut y = b;
     while y != 0 {
+        if x < 1 << 64 && y < 1 << 64 {
+            return u128::from(narrow_gcd(x as u64, y as u64));
+        }
         let rest = x % y;
         x = y;
         y = rest;
     }
     x
+}
+
+/// The greatest common divisor of numbers of 64 bits. The last step, which divides by 1, is not taken.
+fn narrow_gcd(a: u64, b: u64) -> u64
+    ensures { IsGcd a b result }
+{
+    let mut x = a;
+    let mut y = b;
+    while y > 1 {
+        let rest = x % y;
+        x = y;
+        y = rest;
+    }
+    if y == 1 { 1 } else { x }
 }

@@ -12,6 +12,13 @@ impl Num {
         ensures some { IfSome result (λ n. Same n (add self.now other.now)) }
         ensures none { IfNone result (¬ IsRepresentable (add self.now other.now)) }
     {
+        if self.d == other.d {
+            return Num::new(
+                plus(i128::from(self.a), i128::from(other.a)),
+                plus(i128::from(self.b), i128::from(other.b)),
+                i128::from(self.d),
+            );
+        }
         let a = plus(scaled(self.a, other.d), scaled(other.a, self.d));
         let b = plus(scaled(self.b, other.d), scaled(other.b, self.d));
         Num::new(a, b, product(self.d, other.d))

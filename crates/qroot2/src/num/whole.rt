@@ -52,3 +52,24 @@ pub fn cross(x: i64, y: i64, d: u32, e: u32) -> i128
 {
     scaled(x, e) - scaled(y, d)
 }
+
+/// The same in 64 bits, for small denominators.
+pub fn narrow_cross(x: i64, y: i64, d: u32, e: u32) -> i64
+    requires x { unsigned_abs x ≤ 2 ^ 48 }
+    requires y { unsigned_abs y ≤ 2 ^ 48 }
+    requires d { d < 2 ^ 13 }
+    requires e { e < 2 ^ 13 }
+    ensures value { result ≡ x *ℤ pos e -ℤ y *ℤ pos d }
+    ensures bound { unsigned_abs result < 2 ^ 62 }
+{
+    narrow_scaled(x, e) - narrow_scaled(y, d)
+}
+
+fn narrow_scaled(x: i64, d: u32) -> i64
+    requires x { unsigned_abs x ≤ 2 ^ 48 }
+    requires d { d < 2 ^ 13 }
+    ensures value { result ≡ x *ℤ pos d }
+    ensures bound { unsigned_abs result < 2 ^ 61 }
+{
+    x * i64::from(d)
+}

@@ -7,3 +7,6 @@ loop-y-preserved c = λ g h. c.loop-y.invariant g (IsGcd-from_mod c.loop-y.x c.l
 
 pub returns : goal.returns
 returns c = c.loop-y.invariant c.loop-y.x (IsGcd-from_zero c.loop-y.x c.loop-y.y (omega arith))
+
+pub returns-then-y : goal.returns-then-y
+returns-then-y c = c.loop-y.invariant c.from.result (rw c.from.ensures c.narrow_gcd.ensures)

@@ -1,0 +1,13 @@
+use Rattle.std.proofs.lemmas.Nat.Gcd.{IsGcd-from_mod, IsGcd-from_zero}
+use Rattle.std.proofs.Common.{arith}
+use Rattle.std.proofs.Math.Nat.{one-dvd}
+use Rattle.qroot2.proofs.num.reduce.narrow_gcd.Goals as goal
+
+pub loop-y-preserved : goal.loop-y-preserved
+loop-y-preserved c = λ g h. c.loop-y.invariant g (IsGcd-from_mod c.loop-y.x c.loop-y.y g h)
+
+pub returns-then-y-eq1 : goal.returns-then-y-eq1
+returns-then-y-eq1 c = c.loop-y.invariant 1 (rw c.if-y-eq1.true (one-dvd c.loop-y.x, one-dvd 1, λ n h k. k))
+
+pub returns-else-y-eq1 : goal.returns-else-y-eq1
+returns-else-y-eq1 c = c.loop-y.invariant c.loop-y.x (IsGcd-from_zero c.loop-y.x c.loop-y.y (omega arith))
