@@ -1,7 +1,7 @@
 //! Ascending lists: what is in them once, where it stands, and what stands beside it.
 #![tactic(auto)]
 
-ghost use Rattle.std.specs.Prelude.{◌≡◌, ◌<◌, ◌↔◌, Contains, slice_index_or, length};
+ghost use Rattle.std.specs.Prelude.{◌≡◌, ◌<◌, ◌↔◌, Contains, IfSome, IsNone, slice_index_or, length};
 ghost use Rattle.std.specs.declared.cmp.Ordering.{Ordering};
 ghost use Rattle.chains.specs.Chains.{Ascends};
 
@@ -29,5 +29,18 @@ pub fn place<T: Ord + Copy>(list: &[T], x: &T) -> usize
     match list.binary_search(x) {
         Ok(i) => i,
         Err(i) => i,
+    }
+}
+
+/// The place of an element of an ascending list, found by halving, or None where it is not there.
+pub fn find<T: Ord + Copy>(list: &[T], x: &T) -> Option<usize>
+    requires exact { (x y : T) → T.cmp x y ≡ Ordering.Equal → x ≡ y }
+    requires ascends { Ascends T.cmp list.now }
+    ensures some { IfSome result (λ i. (i < length list.now) × (slice_index_or list.now i x.now ≡ x.now)) }
+    ensures none { IsNone result → ¬ Contains list.now x.now }
+{
+    match list.binary_search(x) {
+        Ok(i) => Some(i),
+        Err(_) => None,
     }
 }

@@ -11,3 +11,4 @@ pub mod Plain
 pub mod Partner
 pub mod Sizes
 pub mod Found
+pub mod Leads
