@@ -21,11 +21,11 @@ other_order p q same before f g e h = elim (ordered p q) [
 abbrev between : ExactPoint → ExactPoint → ExactSegment
 between p q = record { p = p; q = q }
 
-pub ends_in_order : (p q : ExactPoint) (r : Result ExactSegment SegBad) → IfOk r (λ s. IsSegment s × (s ≡ between p q)) → IfOk r (λ s. IsSegment s × HasEnds s p q)
+pub ends_in_order : (p q : ExactPoint) (r : Result (ExactSegment × ℕ) SegBad) → IfOk r (λ s. IsSegment s.0 × (s.0 ≡ between p q)) → IfOk r (λ s. IsSegment s.0 × HasEnds s.0 p q)
 ends_in_order p q (Ok s) h = (h.0, inl (ap (λ (t : ExactSegment). t.p) h.1, ap (λ (t : ExactSegment). t.q) h.1))
 ends_in_order p q (Err e) h = tt
 
-pub ends_turned : (p q : ExactPoint) (r : Result ExactSegment SegBad) → IfOk r (λ s. IsSegment s × (s ≡ between q p)) → IfOk r (λ s. IsSegment s × HasEnds s p q)
+pub ends_turned : (p q : ExactPoint) (r : Result (ExactSegment × ℕ) SegBad) → IfOk r (λ s. IsSegment s.0 × (s.0 ≡ between q p)) → IfOk r (λ s. IsSegment s.0 × HasEnds s.0 p q)
 ends_turned p q (Ok s) h = (h.0, inr (ap (λ (t : ExactSegment). t.p) h.1, ap (λ (t : ExactSegment). t.q) h.1))
 ends_turned p q (Err e) h = tt
 

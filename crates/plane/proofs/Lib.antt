@@ -5,6 +5,7 @@ pub mod Zeros
 pub mod Turns
 pub mod Found
 pub mod Ends
+pub mod callers
 pub mod SheetSides
 pub mod SidesMade
 pub mod Orders

@@ -17,13 +17,14 @@ use Rattle.geometry.proofs.PointOrder.{tied}
 use Rattle.qroot2.specs.declared.sign.Sign.{Sign}
 use Rattle.qroot2.specs.declared.sign.Sign.TheVariants as sign
 use Rattle.qroot2.specs.Wide.{HasSign}
-use Rattle.plane.specs.Sides.{IsSide, IsOneSide, IsOnLine}
+use Rattle.plane.specs.Sides.{IsSide, IsBeside, IsOneSide, IsOnLine}
 use Rattle.plane.specs.declared.outcome.Meet.{Meet}
 use Rattle.plane.specs.declared.outcome.Meet.TheVariants as meet
 use Rattle.plane.specs.Meets.{Meets, AreCollinear}
 use Rattle.plane.proofs.Crossed.{crossing, crossing_itself}
 use Rattle.plane.proofs.Turns.{side_cross}
 use Rattle.plane.proofs.Orders.{point_made}
+use Rattle.plane.proofs.callers.Beside.{beside_turns}
 
 -- the ends of s and t, and the later and the earlier ones
 pub record AreEnds (s t : ExactSegment) (lo hi : ExactPoint) : Type 0 where
@@ -117,17 +118,18 @@ signs_told f g sign.Plus sign.Minus h k = (λ u. absurd u, λ x. elim x [ inl y 
 signs_told f g sign.Plus sign.Zero h k = (λ u. absurd u, λ x. elim x [ inl y ↦ zero_not_above g k y.1 | inr y ↦ above_not_minus f h y.0 ])
 signs_told f g sign.Plus sign.Plus h k = (λ u. inl (h, k), λ x. tt)
 
-pub beside_told : (s : ExactSegment) (a p q : ExactPoint) (k : ℕ) (x y : Sign) (b : Bool) → p ≡ s.p → q ≡ s.q → IsSide a k p x → IsSide a k q y → IsTrue b ↔ IsOneSide x y → IsTrue b ↔ SameSide (cross (vector k) a s.p) (cross (vector k) a s.q)
+pub beside_told : (s : ExactSegment) (a p q : ExactPoint) (k : ℕ) (x y : Sign) (b : Bool) → p ≡ s.p → q ≡ s.q → IsSide a k p x → IsSide a k q y → IsTrue b ↔ IsOneSide x y → IsTrue b ↔ IsBeside a k s
 beside_told s a p q k x y b e f h l t =
     let g = signs_told (cross (vector k) a s.p) (cross (vector k) a s.q) x y (side_cross k a s.p x (subst (λ z. IsSide a k z x) e h)) (side_cross k a s.q y (subst (λ z. IsSide a k z y) f l)) in
-    (λ u. g.0 (t.0 u), λ u. t.1 (g.1 u))
+    let turns = beside_turns a k s in
+    (λ u. turns.1 (g.0 (t.0 u)), λ u. t.1 (g.1 (turns.0 u)))
 
 -- from the sides of four ends
 pub apart_beside : (s t : ExactSegment) (p q : ExactPoint) (k j : ℕ) → p ≡ s.p → q ≡ t.p → Along s k → Along t j → k ≢ j
-    → SameSide (cross (vector j) q s.p) (cross (vector j) q s.q) ⊎ SameSide (cross (vector k) p t.p) (cross (vector k) p t.q) → (r : ExactPoint) → ¬ OnBoth r s t
+    → IsBeside q j s ⊎ IsBeside p k t → (r : ExactPoint) → ¬ OnBoth r s t
 apart_beside s t p q k j e f a b n h r = beside s t k j r a b (not_equal s t k j a b n) (elim h [
-  | inl x ↦ inl (subst (λ z. SameSide (cross (vector j) z s.p) (cross (vector j) z s.q)) f x)
-  | inr x ↦ inr (subst (λ z. SameSide (cross (vector k) z t.p) (cross (vector k) z t.q)) e x)
+  | inl x ↦ inl ((beside_turns t.p j s).0 (subst (λ z. IsBeside z j s) f x))
+  | inr x ↦ inr ((beside_turns s.p k t).0 (subst (λ z. IsBeside z k t) e x))
 ])
 
 -- neither segment has its ends on one side of the other
@@ -137,13 +139,13 @@ pub record AreCrossing (s t : ExactSegment) (p q : ExactPoint) (k j : ℕ) : Typ
   pub first : Along s k
   pub second : Along t j
   pub different : k ≢ j
-  pub not_first : ¬ SameSide (cross (vector j) q s.p) (cross (vector j) q s.q)
-  pub not_second : ¬ SameSide (cross (vector k) p t.p) (cross (vector k) p t.q)
+  pub not_first : ¬ IsBeside q j s
+  pub not_second : ¬ IsBeside p k t
 
 pub at_crossing : (s t : ExactSegment) (p q : ExactPoint) (k j : ℕ) (c : ExactPoint) → AreCrossing s t p q k j → On (vector k) p c → On (vector j) q c → Cross s t c
 at_crossing s t p q k j c h l m =
     crossed s t k j c h.first h.second (not_equal s t k j h.first h.second h.different) (subst (λ z. On (vector k) z c) h.from l) (subst (λ z. On (vector j) z c) h.other m)
-    (subst (λ z. ¬ SameSide (cross (vector j) z s.p) (cross (vector j) z s.q)) h.other h.not_first) (subst (λ z. ¬ SameSide (cross (vector k) z t.p) (cross (vector k) z t.q)) h.from h.not_second)
+    (λ x. subst (λ z. ¬ IsBeside z j s) h.other h.not_first ((beside_turns t.p j s).1 x)) (λ x. subst (λ z. ¬ IsBeside z k t) h.from h.not_second ((beside_turns s.p k t).1 x))
 
 pub at_told : (s t : ExactSegment) (p q : ExactPoint) (k j : ℕ) (c : ExactPoint) → AreCrossing s t p q k j → IsOnLine p k c × IsOnLine q j c → Cross s t c
 at_told s t p q k j c h l = at_crossing s t p q k j c h ((turn_on k p c).0 l.0) ((turn_on j q c).0 l.1)

@@ -39,10 +39,9 @@ multiple_passed a x m n e h f k l =
     rw (passed_as a x e (omega (arith, ap unsigned_abs e)), passed_as m (pos n) f (omega arith))
     (passed (x *ℤ pos n) (omega (arith, unsigned_abs-mul x (pos n))))
 
--- a denominator less a whole part, and the opposite of a part
-pub gap_passed : (d a x : ℤ) (n : ℕ) → d ≡ pos n → a ≡ x → n ≤ 2 ^ 20 → unsigned_abs x ≤ 2 ^ 48
-    → cast_signed w64 (cast_unsigned w64 (cast_signed w64 (cast_unsigned w64 d) -ℤ cast_signed w64 (cast_unsigned w64 a))) ≡ pos n -ℤ x
-gap_passed d a x n e f h k = rw (passed_small d (pos n) e (omega arith), passed_small a x f k) (to_z-of_z w64 (pos n -ℤ x) (fits_signed_from_abs w64 _ (omega (arith, ints))))
+-- a computed value of 64 bits, and the opposite of a part
+pub passed_on : (z r : ℤ) → z ≡ r → unsigned_abs z ≤ 2 ^ 49 → cast_signed w64 (cast_unsigned w64 z) ≡ r
+passed_on z r e h = to_z-of_z w64 z (fits_signed_from_abs w64 z (omega arith)) ∙ e
 
 pub down_passed : (b x : ℤ) → b ≡ x → unsigned_abs x ≤ 2 ^ 48 → cast_signed w64 (cast_unsigned w64 (pos 0 -ℤ cast_signed w64 (cast_unsigned w64 b))) ≡ neg_ℤ x
 down_passed b x e h = rw (passed_small b x e h) (to_z-of_z w64 (pos 0 -ℤ x) (fits_signed_from_abs w64 _ (omega (arith, ints))) ∙ omega (arith, ints))

@@ -1,5 +1,5 @@
 -- The side of a line, by the turn of the definition.
-use Rattle.std.proofs.Common.{◌≡◌, ℕ, sym, ap, subst, ◌∙◌, IsTrue, Bool}
+use Rattle.std.proofs.Common.{◌≡◌, ℕ, refl, sym, ap, subst, ◌∙◌, IsTrue, Bool}
 use Rattle.std.specs.Prelude.{ℤ, ◌↔◌}
 use Rattle.exact.specs.Number.{ExactNumber, Same}
 use Rattle.exact.specs.Plane.{ExactPoint, vector}
@@ -33,3 +33,6 @@ plumb_told k p r b e f = subst (λ j. IsTrue b ↔ (cross (vector j) p r ≡ cou
 -- and back
 pub side_cross : (k : ℕ) (p r : ExactPoint) (s : Sign) → IsSide p k r s → HasSign (cross (vector k) p r).a (cross (vector k) p r).b s
 side_cross k p r s h = (let q = num_parts (turn_of p k r) (cross (vector k) p r) (sym (turn_cross (vector k) p r (vector_whole k))) in moved _ (cross (vector k) p r).a _ (cross (vector k) p r).b s (sym q.0) (sym q.1) h)
+
+pub cross_side : (k : ℕ) (p r : ExactPoint) (s : Sign) → HasSign (cross (vector k) p r).a (cross (vector k) p r).b s → IsSide p k r s
+cross_side k p r s h = (let off : Pair = record { a = (cross (vector k) p r).a; b = (cross (vector k) p r).b } in side_told p k r off s refl h)

@@ -1,7 +1,7 @@
 -- On which side of a line a point is.
-use Rattle.std.specs.Prelude.{ℕ}
+use Rattle.std.specs.Prelude.{ℕ, ◌⊎◌}
 use Rattle.exact.specs.Number.{ExactNumber}
-use Rattle.exact.specs.Plane.{ExactPoint, vector, turn, away, IsZero}
+use Rattle.exact.specs.Plane.{ExactPoint, ExactSegment, vector, turn, away, IsZero}
 use Rattle.qroot2.specs.declared.sign.Sign.{Sign}
 use Rattle.qroot2.specs.declared.sign.Sign.TheVariants.{Minus, Zero, Plus}
 use Rattle.qroot2.specs.Wide.{HasSign}
@@ -17,6 +17,11 @@ IsSide p k r sign = HasSign (turn_of p k r).a (turn_of p k r).b sign
 -- r is on the line through p in direction k
 abbrev pub IsOnLine : ExactPoint → ℕ → ExactPoint → Type 0
 IsOnLine p k r = IsZero (turn_of p k r)
+
+-- both ends of s are on the left of the line through p in direction k, or both on its right
+abbrev pub IsBeside : ExactPoint → ℕ → ExactSegment → Type 0
+IsBeside p k s =
+    (IsSide p k s.p Plus × IsSide p k s.q Plus) ⊎ (IsSide p k s.p Minus × IsSide p k s.q Minus)
 
 -- two signs are one, and not Zero
 abbrev pub IsOneSide : Sign → Sign → Type 0

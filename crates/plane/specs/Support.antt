@@ -4,7 +4,7 @@ use Rattle.std.specs.declared.cmp.Ordering.{Ordering}
 use Rattle.std.specs.Ordering.{nat_cmp, ordering_then}
 use Rattle.exact.specs.Order.{triple_cmp}
 use Rattle.exact.specs.Number.{ExactNumber, Same}
-use Rattle.exact.specs.Plane.{ExactSegment, DirOf, vector, turn}
+use Rattle.exact.specs.Plane.{ExactSegment, DirOf, IsZero, vector, turn, away}
 use Rattle.qroot2.specs.Lowest.{IsInLowestTerms}
 
 -- a direction, and the turn from its vector to each point of the line
@@ -18,6 +18,11 @@ pub record IsSupportOf (s : ExactSegment) (l : ExactLine) : Type 0 where
   pub dir : DirOf s.p s.q l.dir
   pub lowest : IsInLowestTerms l.offset
   pub offset : Same l.offset (turn (vector l.dir) s.p)
+
+-- both ends of t are on the line through the ends of s
+abbrev pub AreOnOneLine : ExactSegment → ExactSegment → Type 0
+AreOnOneLine s t =
+    IsZero (turn (away s.p s.q) (away s.p t.p)) × IsZero (turn (away s.p s.q) (away s.p t.q))
 
 -- the order of lines as keys: by direction, then by the triple of the offset
 abbrev pub line_cmp : ExactLine → ExactLine → Ordering

@@ -49,16 +49,11 @@ impl Seg {
         ensures ok { IfOk result (λ s. IsSegment s × HasEnds s p q) }
         ensures held { IfOk result IsHeld }
         ensures same_point { (result ≡ Err SegBad.SamePoint) ↔ (p ≡ q) }
-        ensures not_direction { (result ≡ Err SegBad.NotDirection) ↔ ((p ≢ q) × ((s : ExactSegment) → HasEnds s p q → ¬ IsSegment s)) }
+        ensures not_direction { (result ≡ Err SegBad.NotDirection)
+            ↔ ((p ≢ q) × ((s : ExactSegment) → HasEnds s p q → ¬ IsSegment s)) }
     {
-        if is_same_point(&p, &q) {
-            return Err(SegBad::SamePoint);
-        }
-        if is_before(&p, &q) {
-            in_order(p, q)
-        } else {
-            in_order(q, p)
-        }
+        let (seg, _) = directed(p, q)?;
+        Ok(seg)
     }
 
     /// The lesser end.
@@ -115,16 +110,37 @@ pub(crate) fn joined(p: Point, q: Point) -> Seg
     Seg { p, q }
 }
 
-/// The segment from one point to a later one, if a direction leads there.
-fn in_order(p: Point, q: Point) -> Result<Seg, SegBad>
+/// The segment between two points, given in either order, and the direction from its lesser end to
+/// its greater one.
+pub(crate) fn directed(p: Point, q: Point) -> Result<(Seg, Dir), SegBad>
+    ensures ok { IfOk result (λ s. IsSegment s.0 × HasEnds s.0 p q) }
+    ensures held { IfOk result (λ s. IsHeld s.0) }
+    ensures dir { IfOk result (λ s. (s.1 < 16) × DirOf s.0.p s.0.q s.1) }
+    ensures same_point { (result ≡ Err SegBad.SamePoint) ↔ (p ≡ q) }
+    ensures not_direction { (result ≡ Err SegBad.NotDirection)
+        ↔ ((p ≢ q) × ((s : ExactSegment) → HasEnds s p q → ¬ IsSegment s)) }
+{
+    if is_same_point(&p, &q) {
+        return Err(SegBad::SamePoint);
+    }
+    if is_before(&p, &q) {
+        in_order(p, q)
+    } else {
+        in_order(q, p)
+    }
+}
+
+/// The segment from one point to a later one, and its direction, if one of the sixteen leads there.
+fn in_order(p: Point, q: Point) -> Result<(Seg, Dir), SegBad>
     requires { Before p q }
-    ensures ok { IfOk result (λ s. IsSegment s × (s ≡ record { p = p; q = q })) }
-    ensures held { IfOk result IsHeld }
+    ensures ok { IfOk result (λ s. IsSegment s.0 × (s.0 ≡ record { p = p; q = q })) }
+    ensures held { IfOk result (λ s. IsHeld s.0) }
+    ensures dir { IfOk result (λ s. (s.1 < 16) × DirOf s.0.p s.0.q s.1) }
     ensures not_direction { (result ≡ Err SegBad.NotDirection) ↔ (let s : ExactSegment = record { p = p; q = q } in ¬ IsSegment s) }
     ensures not_same { result ≢ Err SegBad.SamePoint }
 {
     match direction(&p, &q) {
-        Some(_) => Ok(joined(p, q)),
+        Some(dir) => Ok((joined(p, q), dir)),
         None => Err(SegBad::NotDirection),
     }
 }

@@ -3,9 +3,8 @@ ghost use Rattle.std.specs.Prelude.{◌≡◌, ℕ, ◌≤◌, ◌^◌, IsTrue, 
 ghost use Rattle.exact.specs.Plane.{vector};
 ghost use Rattle.geometry.specs.Root.{count, size};
 ghost use Rattle.geometry.specs.Gap.{cross};
-ghost use Rattle.geometry.specs.Meeting.{SameSide};
 ghost use Rattle.plane.specs.Ways.{root, offset_of, IsAlong};
-ghost use Rattle.plane.specs.Sides.{IsSide, IsOneSide};
+ghost use Rattle.plane.specs.Sides.{IsSide, IsBeside, IsOneSide};
 
 use crate::order::{is_level, is_plumb};
 use crate::ways::{Way, cross_product};
@@ -33,7 +32,7 @@ pub(crate) fn is_on_line(at: &Point, dir: Dir, point: &Point) -> bool
 
 /// Whether both ends of a segment are strictly on one side of the line through `at` in direction `dir`.
 pub fn is_beside(seg: &Seg, at: &Point, dir: Dir) -> bool
-    ensures { IsTrue result ↔ SameSide (cross (vector dir) at.now seg.now.p) (cross (vector dir) at.now seg.now.q) }
+    ensures { IsTrue result ↔ IsBeside at.now dir seg.now }
 {
     are_one_side(side(at, dir, &seg.p()), side(at, dir, &seg.q()))
 }

@@ -2,7 +2,8 @@
 ghost use Rattle.std.specs.Prelude.{◌≡◌, ◌<◌};
 
 use crate::{
-    Meet, Point, Seg, SegBad, cross_lines, in_sheet, meet, on, on_border, seg_on_border, side,
+    Meet, Point, Seg, SegBad, Sheet, SupportLine, corner, cross_lines, in_sheet, meet, on,
+    on_border, seg_on_border, sheet_sides, side,
 };
 use ports::Steps;
 use qroot2::{Dir, Num, Sign};
@@ -44,6 +45,8 @@ const ZERO: [i64; 3] = [0, 0, 1];
 
 const ONE: [i64; 3] = [1, 0, 1];
 
+const TWO: [i64; 3] = [2, 0, 1];
+
 const HALF: [i64; 3] = [1, 0, 2];
 
 // √2 - 1, the tangent of 22.5 degrees
@@ -83,6 +86,22 @@ fn no_segments(rt: HostRuntime) {
     assert!(rt; Seg::new(origin, off) == Err(SegBad::NotDirection));
     assert!(rt; Seg::new(off, origin) == Err(SegBad::NotDirection));
     assert!(rt; Seg::new(origin, hair) == Err(SegBad::NotDirection));
+}
+
+#[test]
+fn lines_of_segments(rt: HostRuntime) {
+    let origin = point(&rt, ZERO, ZERO);
+    let center = point(&rt, HALF, HALF);
+    let corner = point(&rt, ONE, ONE);
+    let (rising, line) = Seg::with_line(center, origin).ok().expect(&rt, "a segment");
+    assert!(rt; rising == seg(&rt, origin, center));
+    assert!(rt; line == SupportLine::of(&rising));
+    assert!(rt; line == SupportLine::of(&seg(&rt, center, corner)));
+    // beside it, and across it
+    assert!(rt; line != SupportLine::of(&seg(&rt, point(&rt, ZERO, HALF), point(&rt, HALF, ONE))));
+    assert!(rt; line != SupportLine::of(&seg(&rt, center, point(&rt, ONE, ZERO))));
+    assert!(rt; Seg::with_line(center, center) == Err(SegBad::SamePoint));
+    assert!(rt; Seg::with_line(origin, point(&rt, ONE, HALF)) == Err(SegBad::NotDirection));
 }
 
 #[test]
@@ -176,7 +195,8 @@ fn sides_of_a_line(rt: HostRuntime) {
 }
 
 #[test]
-fn places_on_the_sheet(rt: HostRuntime) {
+fn places_on_the_square(rt: HostRuntime) {
+    let sheet = Sheet::square();
     for (x, y, inside, border) in [
         (HALF, HALF, true, false),
         (ZERO, ONE, true, true),
@@ -189,12 +209,48 @@ fn places_on_the_sheet(rt: HostRuntime) {
         ([-3, 2, 1], HALF, false, false),
     ] {
         let place = point(&rt, x, y);
-        assert_eq!(rt; in_sheet(&place), inside);
-        assert_eq!(rt; on_border(&place), border);
+        assert_eq!(rt; in_sheet(&sheet, &place), inside);
+        assert_eq!(rt; on_border(&sheet, &place), border);
     }
     let left = point(&rt, ZERO, HALF);
     let top = point(&rt, ZERO, ONE);
-    assert!(rt; seg_on_border(&seg(&rt, left, top)));
-    assert!(rt; !seg_on_border(&seg(&rt, left, point(&rt, HALF, ONE))));
-    assert!(rt; !seg_on_border(&seg(&rt, top, point(&rt, [2, 0, 1], ONE))));
+    assert!(rt; seg_on_border(&sheet, &seg(&rt, left, top)));
+    assert!(rt; !seg_on_border(&sheet, &seg(&rt, left, point(&rt, HALF, ONE))));
+    assert!(rt; !seg_on_border(&sheet, &seg(&rt, top, point(&rt, TWO, ONE))));
+}
+
+#[test]
+fn places_on_a_sheet_of_two_by_one(rt: HostRuntime) {
+    let sheet = Sheet::new(2, 1).expect(&rt, "a sheet");
+    for (x, y, inside, border) in [
+        (TWO, ONE, true, true),
+        (ONE, ONE, true, true),
+        (TWO, HALF, true, true),
+        (ONE, HALF, true, false),
+        ([3, 0, 2], HALF, true, false),
+        (HALF, [3, 0, 2], false, false),
+        ([2 * LARGE + 1, 0, LARGE], ONE, false, false),
+    ] {
+        let place = point(&rt, x, y);
+        assert_eq!(rt; in_sheet(&sheet, &place), inside);
+        assert_eq!(rt; on_border(&sheet, &place), border);
+    }
+    assert_eq!(rt; corner(&sheet, 1, 1), point(&rt, TWO, ONE));
+    let low = point(&rt, ONE, ZERO);
+    let high = point(&rt, ONE, ONE);
+    assert!(rt; !seg_on_border(&sheet, &seg(&rt, low, high)));
+    assert!(rt; seg_on_border(&sheet, &seg(&rt, high, point(&rt, TWO, ONE))));
+    let [left, bottom, _, right] = sheet_sides(&sheet);
+    assert_eq!(rt;
+        left,
+        seg(&rt, point(&rt, ZERO, ZERO), point(&rt, ZERO, ONE))
+    );
+    assert_eq!(rt;
+        bottom,
+        seg(&rt, point(&rt, ZERO, ZERO), point(&rt, TWO, ZERO))
+    );
+    assert_eq!(rt;
+        right,
+        seg(&rt, point(&rt, TWO, ZERO), point(&rt, TWO, ONE))
+    );
 }

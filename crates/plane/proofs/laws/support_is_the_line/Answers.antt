@@ -1,0 +1,5 @@
+use Rattle.plane.proofs.Supports.{support_is_line}
+use Rattle.plane.proofs.laws.support_is_the_line.Goals as goal
+
+pub returns : goal.returns
+returns c = support_is_line
