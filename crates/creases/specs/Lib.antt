@@ -1,0 +1,5 @@
+pub mod Creases
+pub mod Standing
+pub mod Places
+pub mod Index
+pub mod Segments
