@@ -6,7 +6,7 @@ use Rattle.exact.specs.Number.{ExactNumber, IsCanonical}
 use Rattle.exact.specs.Plane.{ExactPoint, IsPointCanonical}
 use Rattle.qroot2.specs.Text.{number_text, IsWithinLimits}
 use Rattle.plane.specs.PointText.{point_text}
-use Rattle.sheet.specs.declared.Colour.{Colour}
+use Rattle.sheet.specs.declared.colour.Colour.{Colour}
 use Rattle.pattern.specs.NativeText.{letter}
 use Rattle.pattern.specs.NativeReading.{IsSpelled, IsPointSpelled, AreHeld}
 use Rattle.pattern.specs.NativeLines.{ReadsEnd, both_of, body_text, IsNoBody}
@@ -16,7 +16,7 @@ use Rattle.qroot2.specs.declared.text.NumText.{NumText}
 use Rattle.qroot2.specs.declared.text.NumText.TheVariants.{Syntax, Range}
 use Rattle.pattern.proofs.Splits.{one_split}
 use Rattle.pattern.proofs.NumberBytes.{IsMark, number_unmarked}
-use Rattle.pattern.proofs.Members.{first_has, first_or_later}
+use Rattle.creases.proofs.callers.Members.{first_has, first_or_later}
 
 -- a point's text has a comma, and no space and no line feed
 pub comma_in : (p : ExactPoint) → Contains (point_text p) 44

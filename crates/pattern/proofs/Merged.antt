@@ -1,27 +1,12 @@
 -- The ascending list that is left when creases leave it and others come.
-use Rattle.std.proofs.Common.{◌≡◌, ◌≢◌, ℕ, zero, suc, ◌+◌, ◌<◌, List, [], ◌∷◌, length, get_or, refl, sym, ap, subst, ◌∙◌, ◌⊎◌, inl, inr, arith}
+use Rattle.std.proofs.Common.{◌≡◌, ◌≢◌, ℕ, zero, suc, ◌+◌, ◌<◌, List, [], ◌∷◌, length, get_or, refl, sym, subst, ◌∙◌, ◌⊎◌, inl, inr, arith}
 use Rattle.std.specs.Prelude.{◌↔◌, Contains}
-use Rattle.std.specs.declared.cmp.Ordering.{Ordering}
-use Rattle.std.specs.declared.cmp.Ordering.TheVariants as o
-use Rattle.std.specs.Ordering.{ordering_reverse}
 use Rattle.std.proofs.lemmas.List.Elements.{Contains-get_or}
-use Rattle.exact.specs.Plane.{ExactSegment, SegmentBefore}
-use Rattle.plane.specs.Order.{segment_cmp}
+use Rattle.exact.specs.Plane.{SegmentBefore}
 use Rattle.plane.specs.Segments.{HasCanonicalEnds}
-use Rattle.plane.proofs.Orders.{segment_exact, segment_total, segment_less}
 use Rattle.sheet.specs.Pattern.{ExactCrease}
-use Rattle.pattern.specs.Deltas.{Ascends}
-use Rattle.pattern.proofs.Appending.{segment_before_trans}
-use Rattle.pattern.proofs.Members.{later_has, first_or_later, first_before, later_ascend, segment_not_itself, segment_not_back, first_has}
-
--- of two segments one is before the other, or they are one
-pub segments_ordered : (s t : ExactSegment) → HasCanonicalEnds s → HasCanonicalEnds t → SegmentBefore s t ⊎ ((s ≡ t) ⊎ SegmentBefore t s)
-segments_ordered s t c d = by (segment_cmp s t) refl
-  where
-    by : (r : Ordering) → segment_cmp s t ≡ r → SegmentBefore s t ⊎ ((s ≡ t) ⊎ SegmentBefore t s)
-    by o.Less e = inl ((segment_less s t c d).0 e)
-    by o.Equal e = inr (inl (segment_exact s t e))
-    by o.Greater e = inr (inr ((segment_less t s d c).0 (segment_total.antisymm t s ∙ ap ordering_reverse e)))
+use Rattle.creases.specs.Creases.{Ascends}
+use Rattle.creases.proofs.callers.Members.{segment_before_trans, segments_ordered, later_has, first_or_later, first_before, later_ascend, segment_not_itself, segment_not_back, first_has}
 
 ascend_first : (x : ExactCrease) (xs : List ExactCrease) → Ascends xs → ((f : ExactCrease) → Contains xs f → SegmentBefore x.seg f.seg) → Ascends (x ∷ xs)
 ascend_first x xs h b = go

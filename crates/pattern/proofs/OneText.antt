@@ -1,20 +1,21 @@
 -- A native text is that of one pattern, and other bytes are refused in one way.
 use Rattle.std.proofs.Common.{◌≡◌, ◌≢◌, ℕ, List, [], ◌∷◌, ◌++◌, length, get_or, drop, refl, sym, ap, ◌∙◌, ◌⊎◌, inl, inr, arith, append_assoc, append-nil}
 use Rattle.std.specs.Prelude.{All}
-use Rattle.std.proofs.lemmas.List.{append_cancel_left}
 use Rattle.std.proofs.lemmas.List.Elements.{All-head, All-tail}
 use Rattle.exact.specs.Plane.{ExactPoint}
 use Rattle.qroot2.specs.Text.{number_text}
 use Rattle.qroot2.proofs.OneText.{text_injective}
 use Rattle.plane.specs.PointText.{point_text}
 use Rattle.plane.proofs.Orders.{point_made}
-use Rattle.sheet.specs.Pattern.{ExactCrease, IsPattern, IsKey}
-use Rattle.sheet.specs.declared.Colour.{Colour}
-use Rattle.sheet.specs.declared.Colour.TheVariants as colour
+use Rattle.sheet.specs.Pattern.{ExactCrease, ExactPattern, IsPattern, IsKey}
+use Rattle.sheet.specs.Sheet.{ExactSheet}
+use Rattle.sheet.specs.declared.colour.Colour.{Colour}
+use Rattle.sheet.specs.declared.colour.Colour.TheVariants as colour
 use Rattle.pattern.specs.NativeText.{letter, line_text, lines_text, header, pattern_text}
 use Rattle.pattern.specs.NativeLines.{body_text}
 use Rattle.pattern.specs.NativeReading.{IsPointSpelled}
 use Rattle.pattern.proofs.Splits.{one_split}
+use Rattle.pattern.proofs.Headers.{one_header}
 use Rattle.pattern.proofs.NumberBytes.{number_unmarked}
 use Rattle.pattern.proofs.LineText.{point_unmarked, spelled_point}
 use Rattle.pattern.proofs.NativeSteps.{body_line, body_unmarked, ends}
@@ -58,8 +59,8 @@ one_line c d p q u v after behind sp sq su sv e =
 abbrev pub text_of : ExactCrease → List ℕ
 text_of f = line_text f.colour f.seg.p f.seg.q
 
-one_crease : (f g : ExactCrease) (after behind : List ℕ) → IsKey f.seg → IsKey g.seg → text_of f ++ after ≡ text_of g ++ behind → (f ≡ g) × (after ≡ behind)
-one_crease f g after behind k l e =
+one_crease : (sheet other : ExactSheet) (f g : ExactCrease) (after behind : List ℕ) → IsKey sheet f.seg → IsKey other g.seg → text_of f ++ after ≡ text_of g ++ behind → (f ≡ g) × (after ≡ behind)
+one_crease sheet other f g after behind k l e =
     let line = one_line f.colour g.colour f.seg.p f.seg.q g.seg.p g.seg.q after behind (spelled_point f.seg.p k.from) (spelled_point f.seg.q k.to) (spelled_point g.seg.p l.from) (spelled_point g.seg.q l.to) e in
     (made f.colour g.colour f.seg.p g.seg.p f.seg.q g.seg.q line.colour line.from line.to, line.rest)
   where
@@ -72,17 +73,17 @@ pub record IsBegun (good others : List ExactCrease) (rest behind : List ℕ) : T
   pub more : others ≡ good ++ tail
   pub left : rest ≡ lines_text tail ++ behind
 
-abbrev pub AreKeys : List ExactCrease → Type 0
-AreKeys creases = All (λ f. IsKey f.seg) creases
+abbrev pub AreKeys : ExactSheet → List ExactCrease → Type 0
+AreKeys sheet creases = All (λ f. IsKey sheet f.seg) creases
 
 -- of two lists of lines at the front of one list the one begins with the other
-pub begun : (good others : List ExactCrease) (rest behind : List ℕ) → AreKeys good → AreKeys others → lines_text good ++ rest ≡ lines_text others ++ behind → IsBegun good others rest behind ⊎ IsBegun others good behind rest
-begun [] others rest behind k l e = inl (record { tail = others; more = refl; left = e })
-begun (f ∷ good) [] rest behind k l e = inr (record { tail = f ∷ good; more = refl; left = sym e })
-begun (f ∷ good) (g ∷ others) rest behind k l e =
-    let first = one_crease f g (lines_text good ++ rest) (lines_text others ++ behind) (All-head (λ (h : ExactCrease). IsKey h.seg) f good k) (All-head (λ (h : ExactCrease). IsKey h.seg) g others l)
+pub begun : (sheet other : ExactSheet) (good others : List ExactCrease) (rest behind : List ℕ) → AreKeys sheet good → AreKeys other others → lines_text good ++ rest ≡ lines_text others ++ behind → IsBegun good others rest behind ⊎ IsBegun others good behind rest
+begun sheet other [] others rest behind k l e = inl (record { tail = others; more = refl; left = e })
+begun sheet other (f ∷ good) [] rest behind k l e = inr (record { tail = f ∷ good; more = refl; left = sym e })
+begun sheet other (f ∷ good) (g ∷ others) rest behind k l e =
+    let first = one_crease sheet other f g (lines_text good ++ rest) (lines_text others ++ behind) (All-head (λ (h : ExactCrease). IsKey sheet h.seg) f good k) (All-head (λ (h : ExactCrease). IsKey other h.seg) g others l)
     (sym (append_assoc (text_of f) (lines_text good) rest) ∙ e ∙ append_assoc (text_of g) (lines_text others) behind) in
-    elim (begun good others rest behind (All-tail (λ (h : ExactCrease). IsKey h.seg) f good k) (All-tail (λ (h : ExactCrease). IsKey h.seg) g others l) first.1) [
+    elim (begun sheet other good others rest behind (All-tail (λ (h : ExactCrease). IsKey sheet h.seg) f good k) (All-tail (λ (h : ExactCrease). IsKey other h.seg) g others l) first.1) [
       | inl b ↦ inl (record { tail = b.tail; more = ap (λ t. g ∷ t) b.more ∙ ap (λ x. x ∷ (good ++ b.tail)) (sym first.0); left = b.left })
       | inr b ↦ inr (record { tail = b.tail; more = ap (λ t. f ∷ t) b.more ∙ ap (λ x. x ∷ (others ++ b.tail)) first.0; left = b.left })
     ]
@@ -98,8 +99,20 @@ nothing_left good others b = by b.tail b.more b.left
     by [] m l = sym (m ∙ append-nil good)
     by (f ∷ tail) m l = absurd (no_line_left f tail [] (sym l))
 
-pub one_pattern : (creases others : List ExactCrease) → IsPattern creases → IsPattern others → pattern_text creases ≡ pattern_text others → creases ≡ others
-one_pattern creases others p q e = elim (begun creases others [] [] p.keys q.keys (append-nil (lines_text creases) ∙ append_cancel_left header (lines_text creases) (lines_text others) e ∙ sym (append-nil (lines_text others)))) [
-  | inl b ↦ nothing_left creases others b
-  | inr b ↦ sym (nothing_left others creases b)
-]
+pub same_pattern : (pattern other : ExactPattern) → pattern.sheet ≡ other.sheet → pattern.creases ≡ other.creases → pattern ≡ other
+same_pattern pattern other e f = λ i. record { sheet = e i; creases = f i }
+
+-- what follows the sheet's line
+pub lines_left : (bytes : List ℕ) (pattern other : ExactPattern) (rest behind : List ℕ) → bytes ≡ pattern_text pattern ++ rest → bytes ≡ pattern_text other ++ behind
+    → (pattern.sheet ≡ other.sheet) × (lines_text pattern.creases ++ rest ≡ lines_text other.creases ++ behind)
+lines_left bytes pattern other rest behind e f =
+    one_header pattern.sheet other.sheet (lines_text pattern.creases ++ rest) (lines_text other.creases ++ behind)
+    (sym (append_assoc (header pattern.sheet) (lines_text pattern.creases) rest) ∙ sym e ∙ f ∙ append_assoc (header other.sheet) (lines_text other.creases) behind)
+
+pub one_pattern : (pattern other : ExactPattern) → IsPattern pattern → IsPattern other → pattern_text pattern ≡ pattern_text other → pattern ≡ other
+one_pattern pattern other p q e =
+    let left = lines_left (pattern_text pattern) pattern other [] [] (sym (append-nil (pattern_text pattern))) (e ∙ sym (append-nil (pattern_text other))) in
+    elim (begun pattern.sheet other.sheet pattern.creases other.creases [] [] p.keys q.keys left.1) [
+      | inl b ↦ same_pattern pattern other left.0 (nothing_left pattern.creases other.creases b)
+      | inr b ↦ same_pattern pattern other left.0 (sym (nothing_left other.creases pattern.creases b))
+    ]

@@ -6,8 +6,8 @@ use Rattle.std.proofs.lemmas.List.{take_more, take_all, get_or-take, length-take
 use Rattle.std.proofs.lemmas.List.Quantifiers.{all_pairs_push}
 use Rattle.exact.specs.Plane.{SegmentBefore}
 use Rattle.sheet.specs.Pattern.{ExactCrease}
-use Rattle.pattern.specs.Deltas.{Ascends}
-use Rattle.pattern.proofs.Appending.{segment_before_trans}
+use Rattle.creases.specs.Creases.{Ascends}
+use Rattle.creases.proofs.callers.Members.{segment_before_trans}
 
 pub pairs_next : {X : Type 0} (R : X → X → Type 0) (xs : List X) (i : ℕ) (x : X) → i < length xs → x ≡ get_or xs i x → AllPairs R (take i xs) → All (λ y. R y x) (take i xs) → AllPairs R (take (i + 1) xs)
 pairs_next R xs i x l e h a = subst (AllPairs R) (ap (λ y. take i xs ++ y ∷ []) e ∙ sym (take_more xs i x l)) (all_pairs_push R (take i xs) x h (λ k d m. a k d m))

@@ -5,6 +5,7 @@ use Rattle.std.specs.Result.{result_ok}
 use Rattle.exact.specs.Plane.{ExactPoint, ExactSegment, IsSegment, Before}
 use Rattle.geometry.proofs.PointOrder.{before_not_back, before_not_itself}
 use Rattle.plane.specs.Segments.{HasEnds}
+use Rattle.plane.specs.Support.{ExactLine, IsSupportOf}
 use Rattle.plane.specs.declared.segment.SegBad.{SegBad}
 use Rattle.plane.specs.declared.segment.SegBad.TheVariants as bad
 
@@ -16,18 +17,26 @@ pub ends_in_order : (s : ExactSegment) (p q : ExactPoint) → IsSegment s → Ha
 ends_in_order s p q h (inl e) b = pair s p q e.0 e.1
 ends_in_order s p q h (inr e) b = absurd (before_not_back p q b (subst (λ (x : ExactPoint). Before x p) e.0 (subst (λ (x : ExactPoint). Before s.p x) e.1 h.0)))
 
-pub no_segment : (r : Result ExactSegment SegBad) (p q : ExactPoint) → Before p q → (r ≡ Err bad.SamePoint → p ≡ q) → (r ≡ Err bad.NotDirection → (s : ExactSegment) → HasEnds s p q → ¬ IsSegment s) → result_ok r ≡ None → ¬ IsSegment (record { p = p; q = q })
+-- a segment, with the line on which it lies
+abbrev Placed : Type 0
+Placed = ExactSegment × ExactLine
+
+pub no_segment : (r : Result Placed SegBad) (p q : ExactPoint) → Before p q → (r ≡ Err bad.SamePoint → p ≡ q) → (r ≡ Err bad.NotDirection → (s : ExactSegment) → HasEnds s p q → ¬ IsSegment s) → result_ok r ≡ None → ¬ IsSegment (record { p = p; q = q })
 no_segment (Ok s) p q b f g e h = cc
 no_segment (Err bad.SamePoint) p q b f g e h = before_not_itself q (subst (λ (x : ExactPoint). Before x q) (f refl) b)
 no_segment (Err bad.NotDirection) p q b f g e h = g refl (record { p = p; q = q }) (inl (refl, refl)) h
 
-some_told : (r : Result ExactSegment SegBad) (p q : ExactPoint) → IfOk r (λ s. IsSegment s × HasEnds s p q) → IfSome (result_ok r) (λ s. Before p q → s ≡ record { p = p; q = q }) × IfSome (result_ok r) IsSegment
-some_told (Ok s) p q h = (λ b. ends_in_order s p q h.0 h.1 b, h.0)
-some_told (Err e) p q h = (tt, tt)
+-- the segment between two points in order, on its line
+abbrev IsTold : Option Placed → ExactPoint → ExactPoint → Type 0
+IsTold o p q = IfSome o (λ s. Before p q → s.0 ≡ record { p = p; q = q }) × IfSome o (λ s. IsSegment s.0 × IsSupportOf s.0 s.1)
 
-pub segment_told : (o : Option ExactSegment) (r : Result ExactSegment SegBad) (p q : ExactPoint) → o ≡ result_ok r → IfOk r (λ s. IsSegment s × HasEnds s p q) → IfSome o (λ s. Before p q → s ≡ record { p = p; q = q }) × IfSome o IsSegment
-segment_told o r p q e h = subst (λ (x : Option ExactSegment). IfSome x (λ s. Before p q → s ≡ record { p = p; q = q }) × IfSome x IsSegment) (sym e) (some_told r p q h)
+some_told : (r : Result Placed SegBad) (p q : ExactPoint) → IfOk r (λ s. IsSegment s.0 × HasEnds s.0 p q) → IfOk r (λ s. IsSupportOf s.0 s.1) → IsTold (result_ok r) p q
+some_told (Ok s) p q h k = (λ b. ends_in_order s.0 p q h.0 h.1 b, (h.0, k))
+some_told (Err e) p q h k = (tt, tt)
 
-pub is_none : (o : Option ExactSegment) → IsNone o → o ≡ None
+pub segment_told : (o : Option Placed) (r : Result Placed SegBad) (p q : ExactPoint) → o ≡ result_ok r → IfOk r (λ s. IsSegment s.0 × HasEnds s.0 p q) → IfOk r (λ s. IsSupportOf s.0 s.1) → IsTold o p q
+segment_told o r p q e h k = subst (λ (x : Option Placed). IsTold x p q) (sym e) (some_told r p q h k)
+
+pub is_none : (o : Option Placed) → IsNone o → o ≡ None
 is_none None h = refl
 is_none (Some s) h = cc

@@ -1,9 +1,8 @@
-pub mod Creases
 pub mod NativeText
 pub mod NativeReading
 pub mod NativeLines
-pub mod Lasts
 pub mod NativeEnds
+pub mod NativeHeader
 pub mod NativeReader
 pub mod Splitting
 pub mod Deltas

@@ -1,7 +1,7 @@
 -- What the reading of an end and of a line of native text answers.
 use Rattle.std.specs.Prelude.{◌≡◌, ◌≢◌, ℕ, List, ◌∷◌, ◌++◌, Result, Ok, Err}
 use Rattle.exact.specs.Plane.{ExactPoint, IsPointCanonical}
-use Rattle.sheet.specs.declared.Colour.{Colour}
+use Rattle.sheet.specs.declared.colour.Colour.{Colour}
 use Rattle.plane.specs.PointText.{point_text}
 use Rattle.pattern.specs.NativeText.{letter}
 use Rattle.pattern.specs.NativeReading.{IsPointSpelled, AreHeld}

@@ -5,9 +5,9 @@ use Rattle.ports.specs.declared.stop.Stop.TheVariants as stop
 use Rattle.exact.specs.Number.{ExactNumber, IsLowest}
 use Rattle.exact.specs.Plane.{ExactPoint, ExactSegment, IsSegment, Before, SegmentBefore, Overlap, IsPointCanonical}
 use Rattle.qroot2.specs.Text.{IsWithinLimits}
-use Rattle.sheet.specs.Sheet.{InSheet, OnBorder}
-use Rattle.sheet.specs.Pattern.{ExactCrease, IsPattern}
-use Rattle.sheet.specs.declared.Colour.{Colour}
+use Rattle.sheet.specs.Sheet.{ExactSheet, IsSheet, InSheet, OnBorder}
+use Rattle.sheet.specs.Pattern.{ExactCrease, ExactPattern, IsPattern, crease_limit}
+use Rattle.sheet.specs.declared.colour.Colour.{Colour}
 use Rattle.pattern.specs.NativeText.{line_text, header, pattern_text}
 use Rattle.pattern.specs.declared.native.PatternBad.{PatternBad}
 use Rattle.pattern.specs.declared.native.PatternWhy.{PatternWhy}
@@ -36,18 +36,18 @@ abbrev pub IsAfterLast : List ExactCrease → ExactSegment → Type 0
 IsAfterLast good s = (front : List ExactCrease) (last : ExactCrease) → good ≡ front ++ last ∷ [] → SegmentBefore last.seg s
 
 -- the segment passes the test of this number, after these creases
-abbrev pub Passes : PatternWhy → List ExactCrease → ExactSegment → Type 0
+abbrev pub Passes : PatternWhy → ExactPattern → ExactSegment → Type 0
 Passes why.Line good s = Unit {0}
 Passes why.Range good s = AreHeld s.p s.q
-Passes why.Outside good s = InSheet s.p × InSheet s.q
-Passes why.Order good s = Before s.p s.q × IsAfterLast good s
+Passes why.Outside good s = InSheet good.sheet s.p × InSheet good.sheet s.q
+Passes why.Order good s = Before s.p s.q × IsAfterLast good.creases s
 Passes why.NotDirection good s = IsSegment s
-Passes why.OnBorder good s = ¬ OnBorder s
-Passes why.Overlap good s = All (λ f. ¬ Overlap f.seg s) good
-Passes why.TooMany good s = length good < 20000
+Passes why.OnBorder good s = ¬ OnBorder good.sheet s
+Passes why.Overlap good s = All (λ f. ¬ Overlap f.seg s) good.creases
+Passes why.TooMany good s = length good.creases < crease_limit
 
 -- the tests before this one, in order
-abbrev pub PassesBefore : PatternWhy → List ExactCrease → ExactSegment → Type 0
+abbrev pub PassesBefore : PatternWhy → ExactPattern → ExactSegment → Type 0
 PassesBefore why.Line good s = Unit {0}
 PassesBefore why.Range good s = Unit {0}
 PassesBefore why.Outside good s = Passes why.Range good s
@@ -57,31 +57,35 @@ PassesBefore why.OnBorder good s = Passes why.Range good s × Passes why.Outside
 PassesBefore why.Overlap good s = Passes why.Range good s × Passes why.Outside good s × Passes why.Order good s × Passes why.NotDirection good s × Passes why.OnBorder good s
 PassesBefore why.TooMany good s = Passes why.Range good s × Passes why.Outside good s × Passes why.Order good s × Passes why.NotDirection good s × Passes why.OnBorder good s × Passes why.Overlap good s
 
--- the least test that the first line of the bytes fails, after lines that are these creases
-abbrev pub Fails : PatternWhy → List ExactCrease → List ℕ → Type 0
+-- the least test that the first line of the bytes fails, after lines that are this pattern
+abbrev pub Fails : PatternWhy → ExactPattern → List ℕ → Type 0
 Fails why.Line good bytes = (c : Colour) (p q : ExactPoint) (after : List ℕ) → ¬ BeginsWith bytes c p q after
 Fails w good bytes = (c : Colour) × (p q : ExactPoint) × (after : List ℕ) × BeginsWith bytes c p q after × PassesBefore w good (record { p = p; q = q }) × (¬ Passes w good (record { p = p; q = q }))
 
--- The lines before the bad one are those of a pattern's creases; the first of them is line 2.
-pub record IsBadAfter (bytes : List ℕ) (good : List ExactCrease) (rest : List ℕ) (bad : PatternBad) : Type 0 where
+-- The lines before the bad one are those of a pattern; its sheet is line 1, and its first crease line 2.
+pub record IsBadAfter (bytes : List ℕ) (good : ExactPattern) (rest : List ℕ) (bad : PatternBad) : Type 0 where
   pub pattern : IsPattern good
   pub text : bytes ≡ pattern_text good ++ rest
   pub more : rest ≢ []
-  pub line : bad.line ≡ length good + 2
+  pub line : bad.line ≡ length good.creases + 2
   pub why : Fails bad.why good rest
+
+-- no sheet's line is at the front of the bytes
+abbrev pub HasNoHeader : List ℕ → Type 0
+HasNoHeader bytes = (sheet : ExactSheet) → IsSheet sheet → (rest : List ℕ) → bytes ≢ header sheet ++ rest
 
 -- the first bad line, and on it the least number that applies
 abbrev pub IsRefused : List ℕ → PatternBad → Type 0
 IsRefused bytes bad =
-    (((rest : List ℕ) → bytes ≢ header ++ rest) × (bad.line ≡ 1) × (bad.why ≡ why.Line))
-    ⊎ ((good : List ExactCrease) × (rest : List ℕ) × IsBadAfter bytes good rest bad)
+    (HasNoHeader bytes × (bad.line ≡ 1) × (bad.why ≡ why.Line))
+    ⊎ ((good : ExactPattern) × (rest : List ℕ) × IsBadAfter bytes good rest bad)
 
 -- the bytes are the text of this pattern
-abbrev pub IsRead : List ℕ → List ExactCrease → Type 0
-IsRead bytes creases = IsPattern creases × (bytes ≡ pattern_text creases)
+abbrev pub IsRead : List ℕ → ExactPattern → Type 0
+IsRead bytes pattern = IsPattern pattern × (bytes ≡ pattern_text pattern)
 
 -- What the reading of these bytes answers. Want of memory is free.
-abbrev pub ReadsPattern : List ℕ → Result (List ExactCrease) (Stop PatternBad) → Type 0
-ReadsPattern bytes (Ok creases) = IsRead bytes creases
+abbrev pub ReadsPattern : List ℕ → Result ExactPattern (Stop PatternBad) → Type 0
+ReadsPattern bytes (Ok pattern) = IsRead bytes pattern
 ReadsPattern bytes (Err (stop.Why bad)) = IsRefused bytes bad
 ReadsPattern bytes (Err stop.NoMemory) = Unit {0}

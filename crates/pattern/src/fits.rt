@@ -1,13 +1,15 @@
 //! Whether a delta fits a pattern.
-ghost use Rattle.std.specs.Prelude.{◌≡◌, ◌↔◌, ◌⊎◌, IsTrue, All, Contains};
-ghost use Rattle.exact.specs.Plane.{Overlap, SegmentBefore};
+ghost use Rattle.std.specs.Prelude.{◌≡◌, ◌↔◌, IsTrue, All, Contains};
+ghost use Rattle.exact.specs.Plane.{SegmentBefore};
 ghost use Rattle.sheet.specs.Pattern.{IsKey};
-ghost use Rattle.pattern.specs.Deltas.{Ascends, Fits};
-ghost use Rattle.pattern.specs.Fitting.{AreApart, IsFree};
+ghost use Rattle.creases.specs.Creases.{Ascends};
+ghost use Rattle.pattern.specs.Deltas.{Fits};
+ghost use Rattle.pattern.specs.Fitting.{IsFreeBut};
 
-use crate::apart::are_apart;
+use crate::apart::are_all_apart;
 use crate::{Crease, Delta, Pattern};
-use plane::{Seg, in_sheet, is_before, is_same_point, seg_on_border};
+use plane::{Seg, are_in_sheet, is_before, is_same_point, seg_on_border};
+use sheet::{CREASE_LIMIT, Sheet};
 
 impl Pattern {
     /// Whether a delta fits this pattern: both lists ascend strictly by their segments, each removed
@@ -17,6 +19,7 @@ impl Pattern {
         ensures { IsTrue result ↔ Fits self.now delta.now }
     {
         let len = self.len();
+        let sheet = self.sheet();
         let removed = delta.removed.as_slice();
         let added = delta.added.as_slice();
         if !ascend(removed) {
@@ -28,10 +31,10 @@ impl Pattern {
         if !has_all(self, removed) {
             return false;
         }
-        if !are_keys(added) {
+        if !are_keys(&sheet, added) {
             return false;
         }
-        if len + added.len() > 20_000 + removed.len() {
+        if len + added.len() > CREASE_LIMIT + removed.len() {
             return false;
         }
         if !are_all_apart(added) {
@@ -42,7 +45,7 @@ impl Pattern {
 }
 
 /// Whether each crease comes after the one before.
-fn ascend(creases: &[Crease]) -> bool
+pub(crate) fn ascend(creases: &[Crease]) -> bool
     ensures { IsTrue result ↔ Ascends creases.now }
 {
     for i in 1..creases.len() {
@@ -67,7 +70,7 @@ fn comes_before(s: &Seg, t: &Seg) -> bool
 
 /// Whether all these creases are in the pattern, with their colours.
 fn has_all(pattern: &Pattern, creases: &[Crease]) -> bool
-    ensures { IsTrue result ↔ All (λ f. Contains pattern.now f) creases.now }
+    ensures { IsTrue result ↔ All (λ f. Contains pattern.now.creases f) creases.now }
 {
     for crease in creases {
         if !pattern.has(crease) {
@@ -77,61 +80,34 @@ fn has_all(pattern: &Pattern, creases: &[Crease]) -> bool
     true
 }
 
-/// Whether the segments of all these creases can stand in a pattern.
-fn are_keys(creases: &[Crease]) -> bool
-    ensures { IsTrue result ↔ All (λ f. IsKey f.seg) creases.now }
+/// Whether the segments of all these creases can stand in a pattern on the sheet.
+fn are_keys(sheet: &Sheet, creases: &[Crease]) -> bool
+    ensures { IsTrue result ↔ All (λ f. IsKey sheet.now f.seg) creases.now }
 {
     for crease in creases {
-        if !is_key(&crease.seg) {
+        if !is_key(sheet, &crease.seg) {
             return false;
         }
     }
     true
 }
 
-/// Whether a segment can stand in a pattern: its ends are in the sheet, and it is on no side of it.
-fn is_key(seg: &Seg) -> bool
-    ensures { IsTrue result ↔ IsKey seg.now }
+/// Whether a segment can stand in a pattern on the sheet: its ends are in it, and it is on no side of it.
+pub(crate) fn is_key(sheet: &Sheet, seg: &Seg) -> bool
+    ensures { IsTrue result ↔ IsKey sheet.now seg.now }
 {
     let from = seg.p();
     let to = seg.q();
-    if !in_sheet(&from) {
+    if !are_in_sheet(sheet, &from, &to) {
         return false;
     }
-    if !in_sheet(&to) {
-        return false;
-    }
-    !seg_on_border(seg)
-}
-
-/// Whether no two of these creases overlap.
-fn are_all_apart(creases: &[Crease]) -> bool
-    ensures { IsTrue result ↔ AreApart creases.now }
-{
-    for i in 0..creases.len() {
-        let crease = &creases[i];
-        if !is_apart_from(&creases[..i], crease) {
-            return false;
-        }
-    }
-    true
-}
-
-/// Whether a crease overlaps none of these.
-fn is_apart_from(creases: &[Crease], crease: &Crease) -> bool
-    ensures { IsTrue result ↔ All (λ f. ¬ Overlap f.seg crease.now.seg) creases.now }
-{
-    for earlier in creases {
-        if !are_apart(&earlier.seg, &crease.seg) {
-            return false;
-        }
-    }
-    true
+    !seg_on_border(sheet, seg)
 }
 
 /// Whether all these creases overlap none of the pattern but those that are removed.
 fn are_free(pattern: &Pattern, removed: &[Crease], creases: &[Crease]) -> bool
-    ensures { IsTrue result ↔ All (IsFree pattern.now removed.now) creases.now }
+    requires { Ascends removed.now }
+    ensures { IsTrue result ↔ All (IsFreeBut pattern.now.creases removed.now) creases.now }
 {
     for crease in creases {
         if !is_free(pattern, removed, crease) {
@@ -143,30 +119,33 @@ fn are_free(pattern: &Pattern, removed: &[Crease], creases: &[Crease]) -> bool
 
 /// Whether a crease overlaps none of the pattern but those that are removed.
 fn is_free(pattern: &Pattern, removed: &[Crease], crease: &Crease) -> bool
-    ensures { IsTrue result ↔ IsFree pattern.now removed.now crease.now }
+    requires { Ascends removed.now }
+    ensures { IsTrue result ↔ IsFreeBut pattern.now.creases removed.now crease.now }
 {
-    for other in pattern.creases() {
-        if !may_stand(removed, &other, crease) {
+    for other in pattern.overlapping(&crease.seg) {
+        if !is_among(removed, &other) {
             return false;
         }
     }
     true
 }
 
-/// Whether a crease of the pattern does not overlap one that comes, or is removed.
-fn may_stand(removed: &[Crease], other: &Crease, crease: &Crease) -> bool
-    ensures { IsTrue result ↔ ((¬ Overlap other.now.seg crease.now.seg) ⊎ Contains removed.now other.now) }
-{
-    are_apart(&other.seg, &crease.seg) || is_among(removed, other)
-}
-
-/// Whether a crease is one of these.
+/// Whether a crease is one of these, which ascend.
 fn is_among(creases: &[Crease], crease: &Crease) -> bool
+    requires { Ascends creases.now }
     ensures { IsTrue result ↔ Contains creases.now crease.now }
 {
-    for one in creases {
-        if is_one(one, crease) {
-            return true;
+    let mut low = 0;
+    let mut high = creases.len();
+    while low < high {
+        let middle = low + (high - low) / 2;
+        let one = &creases[middle];
+        if comes_before(&one.seg, &crease.seg) {
+            low = middle + 1;
+        } else if comes_before(&crease.seg, &one.seg) {
+            high = middle;
+        } else {
+            return is_one(one, crease);
         }
     }
     false

@@ -2,7 +2,7 @@
 //! what reading answers is settled by the bytes. Each is a theorem: a function that does nothing, whose clause says what
 //! holds.
 ghost use Rattle.std.specs.Prelude.{◌≡◌, List, ℕ};
-ghost use Rattle.sheet.specs.Pattern.{ExactCrease, IsPattern};
+ghost use Rattle.sheet.specs.Pattern.{ExactPattern, IsPattern};
 ghost use Rattle.pattern.specs.Deltas.{Fits, Leads, inverse_of};
 ghost use Rattle.pattern.specs.declared.delta.Delta.{Delta as AnyDelta};
 ghost use Rattle.pattern.specs.NativeText.{pattern_text};
@@ -11,12 +11,12 @@ ghost use Rattle.pattern.specs.declared.native.PatternBad.{PatternBad as AnyBad}
 
 /// A native text is that of one pattern.
 pub fn text_is_of_one_pattern()
-    ensures { (creases others : List ExactCrease) → IsPattern creases → IsPattern others → pattern_text creases ≡ pattern_text others → creases ≡ others }
+    ensures { (pattern other : ExactPattern) → IsPattern pattern → IsPattern other → pattern_text pattern ≡ pattern_text other → pattern ≡ other }
 {}
 
 /// What is the text of a pattern is not refused, on any line or for any reason.
 pub fn reading_is_one()
-    ensures { (bytes : List ℕ) (creases : List ExactCrease) (bad : AnyBad) → IsRead bytes creases → ¬ IsRefused bytes bad }
+    ensures { (bytes : List ℕ) (pattern : ExactPattern) (bad : AnyBad) → IsRead bytes pattern → ¬ IsRefused bytes bad }
 {}
 
 /// Bytes are refused at one line, for one reason.
@@ -26,11 +26,11 @@ pub fn refusal_is_one()
 
 /// A delta leads from a pattern to one pattern.
 pub fn delta_leads_to_one()
-    ensures { (old new other : List ExactCrease) (delta : AnyDelta) → Leads old delta new → Leads old delta other → new ≡ other }
+    ensures { (old new other : ExactPattern) (delta : AnyDelta) → Leads old delta new → Leads old delta other → new ≡ other }
 {}
 
 /// The inverse of a delta that fits a pattern fits the one that it leads to, and leads back.
 pub fn inverse_leads_back()
-    ensures fits { (old new : List ExactCrease) (delta : AnyDelta) → IsPattern old → Fits old delta → Leads old delta new → Fits new (inverse_of delta) }
-    ensures leads { (old new : List ExactCrease) (delta : AnyDelta) → IsPattern old → Fits old delta → Leads old delta new → Leads new (inverse_of delta) old }
+    ensures fits { (old new : ExactPattern) (delta : AnyDelta) → IsPattern old → Fits old delta → Leads old delta new → Fits new (inverse_of delta) }
+    ensures leads { (old new : ExactPattern) (delta : AnyDelta) → IsPattern old → Fits old delta → Leads old delta new → Leads new (inverse_of delta) old }
 {}

@@ -2,18 +2,15 @@
 #![tactic(auto)]
 
 mod apart;
-mod crease;
-mod creases;
 mod delta;
 mod difference;
-mod entries;
 mod fits;
 mod laws;
 mod native;
 mod pattern;
+mod step;
 
-pub use crease::Crease;
-pub use creases::Creases;
+pub use creases::{Crease, CreaseMap, Creases, Overlapping};
 pub use delta::Delta;
 pub use difference::between;
 pub use laws::{

@@ -1,5 +1,6 @@
-//! The native text of a pattern: the line `q2 1`, and then a line for each crease.
-mod lasts;
+//! The native text of a pattern: a line for the sheet, and then a line for each crease. The first line is `q2 1` for the
+//! sheet of width 1 and height 1, and `q2 2 W H` with the width and the height for every other sheet.
+mod header;
 mod line;
 mod place;
 mod read;
@@ -13,7 +14,7 @@ pub use write::pattern_bytes;
 #[derive(Clone, Copy, Debug, PartialEq, Eq)]
 pub enum PatternWhy {
     /// It is not of the form, a number on it is not the text of one in lowest terms, or it has no
-    /// line feed. Line 1 is not `q2 1`.
+    /// line feed. Line 1 is that of no sheet.
     Line = 1,
     /// A number on it is out of range: its a or b is above 2^48 in size, or its d above 2^20.
     Range = 2,

@@ -1,51 +1,57 @@
-//! A crease pattern: a finite map from segments to colours, without overlaps.
-ghost use Rattle.std.specs.Prelude.{◌≡◌, [], ◌↔◌, length, IfSome, IsNone, Contains, map, ◌++◌, ◌∷◌, OnOk, OnErr, IfOk, IsTrue};
-ghost use Rattle.exact.specs.Plane.{ExactSegment};
-ghost use Rattle.sheet.specs.Pattern.{ExactCrease, IsPattern};
-ghost use Rattle.pattern.specs.Creases.{IsUncreased};
+//! A crease pattern: a sheet, and a finite map from segments to colours, without overlaps.
+ghost use Rattle.std.specs.Prelude.{◌≡◌, [], ◌↔◌, length, IfSome, IsNone, Contains, IfOk, IsTrue};
+ghost use Rattle.sheet.specs.Pattern.{IsPattern};
+ghost use Rattle.creases.specs.Creases.{AreOverlapping, FollowOneAnother, IsColoured, IsUncreased};
 ghost use Rattle.pattern.specs.Deltas.{Fits, Leads};
 
-use crate::entries::{put_in, take_out};
-use crate::{Crease, Creases, Delta};
+use crate::{Crease, CreaseMap, Creases, Delta, Overlapping};
 use plane::Seg;
 use ports::NoMemory;
-use sheet::Colour;
-use std::alloc::{AllocError, Global};
-use std::collections::BTreeMap;
+use sheet::{Colour, Sheet};
+use std::alloc::Global;
 use std::marker::Model;
 
-/// A crease pattern: a finite map from segments to colours. All ends are in the sheet, no segment
-/// lies on a side of it, no two overlap, and there are at most 20,000.
+/// A crease pattern: a sheet, and a finite map from segments to colours. All ends are in the sheet,
+/// no segment lies on a side of it, no two overlap, and there are at most `CREASE_LIMIT`.
 #[derive(Drop)]
 pub struct Pattern {
-    creases: BTreeMap<Seg, Colour>,
+    pub(crate) sheet: Sheet,
+    pub(crate) creases: CreaseMap,
 }
 
 impl Model for Pattern {
-    ghost use Rattle.std.specs.Prelude.{List};
-    ghost use Rattle.sheet.specs.Pattern.{ExactCrease, IsPattern};
-    ghost use Rattle.pattern.specs.Creases.{creases_of};
+    ghost use Rattle.sheet.specs.Pattern.{ExactPattern, IsPattern};
 
-    ghost Value = { List ExactCrease };
+    ghost Value = { ExactPattern };
 
-    ghost view = { λ s. creases_of s.creases.entries };
+    ghost view = { λ s. record { sheet = s.sheet; creases = s.creases } };
 
-    ghost invariant = { λ s. IsPattern (creases_of s.creases.entries) };
+    ghost invariant = { λ s. IsPattern (record { sheet = s.sheet; creases = s.creases }) };
 }
 
 impl Pattern {
-    /// The pattern without creases. It takes no memory.
-    pub fn empty(alloc: Global) -> Pattern
-        ensures { result ≡ [] }
+    /// The pattern on this sheet without creases. It takes no memory.
+    pub fn empty(alloc: Global, sheet: Sheet) -> Pattern
+        ensures { result ≡ record { sheet = sheet; creases = [] } }
     {
+        let _w = sheet.w();
         Pattern {
-            creases: BTreeMap::new(alloc),
+            sheet,
+            creases: CreaseMap::new(alloc),
         }
     }
 
-    /// How many creases there are, at most 20,000.
+    /// The sheet that the pattern is on.
+    pub fn sheet(&self) -> Sheet
+        ensures sheet { result ≡ self.now.sheet }
+        ensures pattern { IsPattern self.now }
+    {
+        self.sheet
+    }
+
+    /// How many creases there are, at most `CREASE_LIMIT`.
     pub fn len(&self) -> usize
-        ensures count { result ≡ length self.now }
+        ensures count { result ≡ length self.now.creases }
         ensures pattern { IsPattern self.now }
     {
         self.creases.len()
@@ -53,29 +59,36 @@ impl Pattern {
 
     /// The colour of the crease on exactly this segment, or None where there is none.
     pub fn colour(&self, seg: &Seg) -> Option<Colour>
-        ensures some { IfSome result (λ colour. Contains self.now (record { seg = seg.now; colour = colour })) }
-        ensures none { IsNone result → IsUncreased self.now seg.now }
+        ensures some { IfSome result (IsColoured self.now.creases seg.now) }
+        ensures none { IsNone result → IsUncreased self.now.creases seg.now }
         ensures pattern { IsPattern self.now }
     {
-        self.creases.get(seg).copied()
+        self.creases.colour(seg)
     }
 
     /// Whether this crease, with its colour, is in the pattern.
     pub fn has(&self, crease: &Crease) -> bool
-        ensures { IsTrue result ↔ Contains self.now crease.now }
+        ensures { IsTrue result ↔ Contains self.now.creases crease.now }
     {
-        match self.colour(&crease.seg) {
-            Some(colour) => colour == crease.colour,
-            None => false,
-        }
+        self.creases.has(crease)
     }
 
     /// The creases, ascending by their segments.
     pub fn creases(&self) -> Creases<'_>
-        ensures rest { result ≡ self.now }
+        ensures rest { result ≡ self.now.creases }
         ensures pattern { IsPattern self.now }
     {
-        Creases::new(&self.creases)
+        self.creases.creases()
+    }
+
+    /// The creases that overlap a segment, in the order in which they follow one another on its
+    /// line. It takes no memory, and the time of a look-up and of its answer.
+    pub fn overlapping(&self, seg: &Seg) -> Overlapping<'_>
+        ensures members { AreOverlapping self.now.creases seg.now result }
+        ensures along { FollowOneAnother result }
+        ensures pattern { IsPattern self.now }
+    {
+        self.creases.overlapping(seg)
     }
 
     /// An equal pattern.
@@ -83,18 +96,17 @@ impl Pattern {
     /// # Errors
     ///
     /// `NoMemory` where memory for the creases runs out.
-    pub fn copy(&self, alloc: Global) -> Result<Pattern, NoMemory>
+    pub fn copy(&self, _alloc: Global) -> Result<Pattern, NoMemory>
         ensures same { IfOk result (λ pattern. pattern ≡ self.now) }
         ensures pattern { IsPattern self.now }
     {
-        let mut pattern = Pattern::empty(alloc);
-        for crease in self.creases() {
-            pattern.append(crease)?;
-        }
-        Ok(pattern)
+        Ok(Pattern {
+            sheet: self.sheet,
+            creases: self.creases.copy()?,
+        })
     }
 
-    /// The pattern to which a delta that fits leads from this one.
+    /// The pattern to which a delta that fits leads from this one. It is on the same sheet.
     ///
     /// # Errors
     ///
@@ -103,19 +115,6 @@ impl Pattern {
         requires { Fits self.now delta.now }
         ensures { IfOk result (Leads self.now delta.now) }
     {
-        let mut creases = self.copy(alloc)?.creases;
-        take_out(&mut creases, delta.removed.as_slice());
-        put_in(&mut creases, delta.added.as_slice())?;
-        Ok(Pattern { creases })
-    }
-
-    /// Puts in a crease that comes after all others and keeps this a pattern.
-    pub(crate) fn append(&mut self, crease: Crease) -> Result<(), AllocError>
-        requires { IsPattern (self.old ++ crease ∷ []) }
-        ensures ok { OnOk result (self.new ≡ self.old ++ crease ∷ []) }
-        ensures err { OnErr result (self.new ≡ self.old) }
-    {
-        self.creases.insert(crease.seg, crease.colour)?;
-        Ok(())
+        Ok(self.copy(alloc)?.advance(delta)?.unwrap())
     }
 }

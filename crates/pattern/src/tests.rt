@@ -36,7 +36,25 @@ fn seg(rt: &impl Abort, from: &str, to: &str) -> Seg {
 
 #[test]
 fn first_lines(rt: HostRuntime) {
-    for text in ["", "q2 1", "q2 2\n", "q2 1\r\n", "\nq2 1\n", "M 0,0 1,1\n"] {
+    for text in [
+        "",
+        "q2 1",
+        "q2 2\n",
+        "q2 1\r\n",
+        "\nq2 1\n",
+        "M 0,0 1,1\n",
+        // The square has format 1 alone.
+        "q2 2 1 1\n",
+        "q2 2 9 1\n",
+        "q2 2 1 9\n",
+        "q2 2 0 1\n",
+        "q2 2 2 1",
+        "q2 2 2 1 \n",
+        "q2 2 02 1\n",
+        "q2 2 2,1\n",
+        "q2 2 2\n",
+        "q2 1 2 1\n",
+    ] {
         assert!(rt; is_refused(rt.alloc(), text, 1, Line), "{text}");
     }
 }
@@ -78,6 +96,12 @@ fn single_lines(rt: HostRuntime) {
         ("q2 1\nM 0,0 1,1/3\n", NotDirection),
         ("q2 1\nM 0,0 1,0\n", OnBorder),
         ("q2 1\nM 0,0 1,0\nB 0,0 1,1\n", OnBorder),
+        // On a sheet of width 2 and height 1.
+        ("q2 2 2 1\nM 0,0 2,2\n", Outside),
+        ("q2 2 2 1\nM 0,0 0,2\n", Outside),
+        ("q2 2 2 1\nM 0,0 0,1\n", OnBorder),
+        ("q2 2 2 1\nM 1/2,1 3/2,1\n", OnBorder),
+        ("q2 2 2 1\nM 2,0 2,1\n", OnBorder),
     ] {
         assert!(rt; is_refused(rt.alloc(), text, 2, why), "{text}");
     }
@@ -116,6 +140,10 @@ fn kept(rt: HostRuntime) {
         ("q2 1\nM 0,1/2 1,1/2\nV 1/2,0 1/2,1\n", 2),
         // Ends in the field of √2.
         ("q2 1\nM 0,0 1,-1+1r\nV 0,0 1,1\nA 0,1 1r/2,2-1r/2\n", 3),
+        // What is a side of the square is none of a larger sheet.
+        ("q2 2 2 1\nM 1,0 1,1\n", 1),
+        ("q2 2 1 2\nM 0,1 1,1\n", 1),
+        ("q2 2 8 8\nM 0,0 8,8\nV 0,7 1,8\n", 2),
     ] {
         assert!(rt; is_kept(rt.alloc(), text, count), "{text}");
     }
@@ -142,8 +170,17 @@ fn look_ups(rt: HostRuntime) -> Result<(), Fail> {
     let falling = seg(&rt, "0,1", "1/2,1/2");
     assert!(rt; pattern.colour(&rising) == Some(Colour::M));
     assert!(rt; pattern.colour(&falling) == Some(Colour::V));
-    // A part of a crease is no crease.
+    // A part of a crease is no crease, and overlaps one.
     assert!(rt; pattern.colour(&seg(&rt, "0,0", "1/2,1/2")) == None);
+    let mut found = pattern.overlapping(&seg(&rt, "1/4,1/4", "1/2,1/2"));
+    assert!(rt;
+        found.next()
+            == Some(Crease {
+                seg: rising,
+                colour: Colour::M
+            })
+    );
+    assert!(rt; found.next() == None);
     let mut creases = pattern.creases();
     assert!(rt;
         creases.next()

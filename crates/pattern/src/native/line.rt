@@ -1,7 +1,7 @@
 //! One line of native text.
 ghost use Rattle.std.specs.Prelude.{◌≡◌, ◌≢◌, ◌⊎◌, ◌∷◌, IfOk, IfErr, IfSome, IsNone, Err, List, ℕ};
 ghost use Rattle.exact.specs.Plane.{ExactPoint};
-ghost use Rattle.sheet.specs.declared.Colour.{Colour as AColour};
+ghost use Rattle.sheet.specs.declared.colour.Colour.{Colour as AColour};
 ghost use Rattle.pattern.specs.NativeText.{letter};
 ghost use Rattle.pattern.specs.NativeReading.{AreHeld};
 ghost use Rattle.pattern.specs.NativeLines.{ReadsEnd, both_of, body_text, IsNoBody, IsWideBody};

@@ -1,85 +1,79 @@
 //! A whole native text, line after line.
-ghost use Rattle.std.specs.Prelude.{◌≡◌, ◌≢◌, ◌+◌, ◌<◌, ◌++◌, ◌∷◌, [], ℕ, List, IfOk, IfSome, IsNone, length, IsTrue, IsFalse, OnOk, OnErr};
-ghost use Rattle.sheet.specs.Pattern.{ExactCrease};
-ghost use Rattle.pattern.specs.NativeText.{header};
+ghost use Rattle.std.specs.Prelude.{◌≡◌, []};
+ghost use Rattle.plane.specs.Support.{IsSupportOf};
 ghost use Rattle.pattern.specs.NativeReading.{ReadsPattern};
-ghost use Rattle.pattern.specs.NativeReader.{IsReading, TakesLine, PassesAll};
 
-use super::lasts::Lasts;
+use super::header::read_header;
 use super::line::read_line;
 use super::place::placed;
 use super::split::split;
 use super::{PatternBad, PatternWhy};
-use crate::{Crease, Pattern};
-use plane::Seg;
+use crate::{Crease, CreaseMap, Pattern};
+use plane::{Seg, SupportLine};
 use ports::Stop;
-use std::alloc::{AllocError, Global};
-
-/// The first line, with its line feed.
-pub(super) const HEADER: &[u8] = b"q2 1\n";
+use sheet::{CREASE_LIMIT, Sheet};
+use std::alloc::Global;
 
 /// The pattern whose native text these bytes are, or the first bad line and the least number that
 /// applies to it.
 pub fn read_pattern(alloc: Global, bytes: &[u8]) -> Result<Pattern, Stop<PatternBad>>
     ensures { ReadsPattern bytes.now result }
 {
-    if !has_header(bytes) {
+    let Some((sheet, start)) = read_header(bytes) else {
         return Err(Stop::Why(PatternBad {
             line: 1,
             why: PatternWhy::Line,
         }));
-    }
-    let mut reader = Reader::new(alloc);
-    let mut at = HEADER.len();
+    };
+    let mut reader = Reader::new(alloc, sheet);
+    let mut at = start;
     while at < bytes.len() {
         match reader.take_line(&bytes[at..]) {
             Ok(length) => at += length,
             Err(Stop::NoMemory) => return Err(Stop::NoMemory),
             Err(Stop::Why(why)) => {
                 return Err(Stop::Why(PatternBad {
-                    line: reader.pattern.len() as u64 + 2,
+                    line: reader.creases.len() as u64 + 2,
                     why,
                 }));
             }
         }
     }
-    Ok(reader.pattern)
+    Ok(Pattern {
+        sheet: reader.sheet,
+        creases: reader.creases,
+    })
 }
 
-/// Whether the bytes begin with the first line.
-fn has_header(bytes: &[u8]) -> bool
-    ensures yes { IsTrue result → (rest : List ℕ) × (bytes.now ≡ header ++ rest) × (length rest + 5 ≡ length bytes.now) }
-    ensures no { IsFalse result → (rest : List ℕ) → bytes.now ≢ header ++ rest }
-{
-    bytes.starts_with(HEADER)
-}
-
-/// The creases of the lines read so far.
+/// The sheet, and the creases of the lines read so far.
 #[derive(Drop)]
 struct Reader {
-    pattern: Pattern,
+    sheet: Sheet,
+    creases: CreaseMap,
     last: Option<Seg>,
-    lasts: Lasts,
 }
 
 impl Reader {
-    ghost use Rattle.pattern.specs.NativeReader.{IsReading, TakesLine, PassesAll};
+    ghost use Rattle.plane.specs.Support.{IsSupportOf};
+    ghost use Rattle.pattern.specs.NativeReader.{IsReading, TakesLine, KeepsCrease, CanFollow, on};
 
-    fn new(alloc: Global) -> Reader
-        ensures empty { result.pattern ≡ [] }
-        ensures reading { IsReading result.pattern result.last result.lasts.by_line.entries }
+    fn new(alloc: Global, sheet: Sheet) -> Reader
+        ensures sheet { result.sheet ≡ sheet }
+        ensures empty { result.creases ≡ [] }
+        ensures reading { IsReading (on result.sheet result.creases) result.last }
     {
+        let _w = sheet.w();
         Reader {
-            pattern: Pattern::empty(alloc),
+            sheet,
+            creases: CreaseMap::new(alloc),
             last: None,
-            lasts: Lasts::new(alloc),
         }
     }
 
     /// Takes the first line of the bytes, and answers its length with its line feed.
     fn take_line(&mut self, bytes: &[u8]) -> Result<usize, Stop<PatternWhy>>
-        requires { IsReading self.old.pattern self.old.last self.old.lasts.by_line.entries }
-        ensures { TakesLine self.old.pattern bytes.now self.new.pattern self.new.last self.new.lasts.by_line.entries result }
+        requires { IsReading (on self.old.sheet self.old.creases) self.old.last }
+        ensures { TakesLine (on self.old.sheet self.old.creases) bytes.now (on self.new.sheet self.new.creases) self.new.last result }
     {
         let Some((text, _)) = split(bytes, b'\n') else {
             return Err(Stop::Why(PatternWhy::Line));
@@ -88,31 +82,37 @@ impl Reader {
             Ok(line) => line,
             Err(why) => return Err(Stop::Why(why)),
         };
-        let seg = match placed(&line, &self.last) {
-            Ok(seg) => seg,
+        let (seg, support) = match placed(&self.sheet, &line, &self.last) {
+            Ok(placed) => placed,
             Err(why) => return Err(Stop::Why(why)),
         };
-        if !self.lasts.is_apart(&seg) {
-            return Err(Stop::Why(PatternWhy::Overlap));
-        }
-        if self.pattern.len() >= 20_000 {
-            return Err(Stop::Why(PatternWhy::TooMany));
-        }
-        self.keep(Crease {
+        let crease = Crease {
             seg,
             colour: line.colour,
-        })?;
-        Ok(text.len() + 1)
+        };
+        match self.keep(support, crease) {
+            Ok(()) => Ok(text.len() + 1),
+            Err(why) => Err(why),
+        }
     }
 
-    /// Keeps a crease that passed all tests as the last one.
-    fn keep(&mut self, crease: Crease) -> Result<(), AllocError>
-        requires reading { IsReading self.old.pattern self.old.last self.old.lasts.by_line.entries }
-        requires passed { PassesAll self.old.pattern crease.seg }
-        ensures { OnOk result ((self.new.pattern ≡ self.old.pattern ++ crease ∷ []) × IsReading self.new.pattern self.new.last self.new.lasts.by_line.entries) }
+    /// Keeps a crease that comes last, of which the line is known, unless it overlaps an earlier one
+    /// or is one too many.
+    fn keep(&mut self, support: SupportLine, crease: Crease) -> Result<(), Stop<PatternWhy>>
+        requires support { IsSupportOf crease.seg support }
+        requires reading { IsReading (on self.old.sheet self.old.creases) self.old.last }
+        requires follows { CanFollow (on self.old.sheet self.old.creases) crease.seg }
+        ensures { KeepsCrease (on self.old.sheet self.old.creases) crease (on self.new.sheet self.new.creases) self.new.last result }
     {
-        self.pattern.append(crease)?;
-        self.lasts.note(crease.seg)?;
+        if self.creases.len() >= CREASE_LIMIT {
+            if self.creases.is_free(&crease.seg) {
+                return Err(Stop::Why(PatternWhy::TooMany));
+            }
+            return Err(Stop::Why(PatternWhy::Overlap));
+        }
+        if !self.creases.put_if_free_on(support, crease)? {
+            return Err(Stop::Why(PatternWhy::Overlap));
+        }
         self.last = Some(crease.seg);
         Ok(())
     }

@@ -2,7 +2,7 @@
 ghost use Rattle.std.specs.Prelude.{◌≡◌, ◌++◌, OnOk, IfOk};
 ghost use Rattle.pattern.specs.NativeText.{letter as letter_of, line_text, pattern_text};
 
-use super::read::HEADER;
+use super::header::put_header;
 use crate::{Crease, Pattern};
 use plane::put_point;
 use ports::NoMemory;
@@ -17,7 +17,8 @@ use std::alloc::{AllocError, Global};
 pub fn pattern_bytes(alloc: Global, pattern: &Pattern) -> Result<Vec<u8>, NoMemory>
     ensures { IfOk result (λ text. text.items ≡ pattern_text pattern.now) }
 {
-    let mut text = HEADER.to_vec(alloc)?;
+    let mut text = Vec::new(alloc);
+    put_header(&mut text, &pattern.sheet())?;
     for crease in pattern.creases() {
         put_line(&mut text, &crease)?;
     }

@@ -4,4 +4,4 @@ use Rattle.pattern.specs.Deltas.{IsWithout}
 use Rattle.pattern.proofs.difference.without.Given as goal
 
 abbrev pub invariant-loop-crease : goal.invariant-loop-crease
-invariant-loop-crease l = (done : List ExactCrease) × (done ++ l.crease-iterator ≡ l.pattern) × IsWithout done l.other l.only.items
+invariant-loop-crease l = (done : List ExactCrease) × (done ++ l.crease-iterator ≡ l.pattern.creases) × IsWithout done l.other.creases l.only.items

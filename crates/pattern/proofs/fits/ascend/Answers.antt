@@ -1,7 +1,7 @@
 use Rattle.std.proofs.Common.{◌≡◌, subst, sym}
 use Rattle.exact.specs.Plane.{SegmentBefore}
 use Rattle.sheet.specs.Pattern.{ExactCrease}
-use Rattle.pattern.specs.Deltas.{Ascends}
+use Rattle.creases.specs.Creases.{Ascends}
 use Rattle.pattern.proofs.Pairs.{ascends_short, ascend_next, ascend_fails, pairs_tested}
 use Rattle.pattern.proofs.Told.{answers_no, answers_yes, refuted}
 use Rattle.pattern.proofs.fits.ascend.Goals as goal

@@ -1,5 +1,5 @@
 use Rattle.std.proofs.Common.{take}
-use Rattle.pattern.specs.Deltas.{Ascends}
+use Rattle.creases.specs.Creases.{Ascends}
 use Rattle.pattern.proofs.fits.ascend.Given as goal
 
 abbrev pub invariant-loop-i : goal.invariant-loop-i

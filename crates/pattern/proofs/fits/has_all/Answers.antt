@@ -4,11 +4,11 @@ use Rattle.pattern.proofs.Told.{all_next, all_tested, one_fails, refuted, answer
 use Rattle.pattern.proofs.fits.has_all.Goals as goal
 
 pub loop-crease-preserved : goal.loop-crease-preserved
-loop-crease-preserved c = all_next (λ (f : ExactCrease). Contains c.args.pattern.now f) c.args.creases.now c.loop-crease.crease-index c.crease-item.result c.loop-crease-test.true c.crease-item.is c.loop-crease.invariant (c.has.ensures.0 c.if-not-has.false)
+loop-crease-preserved c = all_next (λ (f : ExactCrease). Contains c.args.pattern.now.creases f) c.args.creases.now c.loop-crease.crease-index c.crease-item.result c.loop-crease-test.true c.crease-item.is c.loop-crease.invariant (c.has.ensures.0 c.if-not-has.false)
 
 pub returns-then-not-has : goal.returns-then-not-has
-returns-then-not-has c = answers_no (All (λ (f : ExactCrease). Contains c.args.pattern.now f) c.args.creases.now)
-    (one_fails (λ (f : ExactCrease). Contains c.args.pattern.now f) c.args.creases.now c.loop-crease.crease-index c.crease-item.result c.loop-crease-test.true c.crease-item.is (refuted c.has.result c.if-not-has.true c.has.ensures))
+returns-then-not-has c = answers_no (All (λ (f : ExactCrease). Contains c.args.pattern.now.creases f) c.args.creases.now)
+    (one_fails (λ (f : ExactCrease). Contains c.args.pattern.now.creases f) c.args.creases.now c.loop-crease.crease-index c.crease-item.result c.loop-crease-test.true c.crease-item.is (refuted c.has.result c.if-not-has.true c.has.ensures))
 
 pub returns : goal.returns
-returns c = answers_yes (All (λ (f : ExactCrease). Contains c.args.pattern.now f) c.args.creases.now) (all_tested (λ (f : ExactCrease). Contains c.args.pattern.now f) c.args.creases.now c.loop-crease.crease-index c.loop-crease-test.false c.loop-crease.invariant)
+returns c = answers_yes (All (λ (f : ExactCrease). Contains c.args.pattern.now.creases f) c.args.creases.now) (all_tested (λ (f : ExactCrease). Contains c.args.pattern.now.creases f) c.args.creases.now c.loop-crease.crease-index c.loop-crease-test.false c.loop-crease.invariant)

@@ -1,20 +1,41 @@
-use Rattle.std.proofs.Common.{◌≢◌, refl, sym, subst}
+use Rattle.std.proofs.Common.{◌≡◌, ◌+◌, ◌-◌, ◌/◌, ◌<◌, length, sym, subst, arith}
+use Rattle.exact.specs.Plane.{SegmentBefore}
 use Rattle.std.specs.Prelude.{Contains}
-use Rattle.std.proofs.lemmas.List.Elements.{All-contains, Contains-get_or}
 use Rattle.sheet.specs.Pattern.{ExactCrease}
-use Rattle.pattern.proofs.Told.{all_next, all_tested, refuted, answers_no, answers_yes}
+use Rattle.pattern.proofs.Searching.{places_behind, places_before, places_here, no_place}
+use Rattle.pattern.proofs.Told.{refuted, shown, answers_no}
 use Rattle.pattern.proofs.fits.is_among.Goals as goal
 
-abbrev IsOther : ExactCrease → ExactCrease → Type 0
-IsOther g f = f ≢ g
+-- by the views of both
+moved : (f g x y : ExactCrease) → f ≡ g → x ≡ y → SegmentBefore f.seg x.seg → SegmentBefore g.seg y.seg
+moved f g x y e h b = subst (λ (z : ExactCrease). SegmentBefore g.seg z.seg) h (subst (λ (z : ExactCrease). SegmentBefore z.seg x.seg) e b)
 
-pub loop-one-preserved : goal.loop-one-preserved
-loop-one-preserved c = all_next (IsOther c.args.crease.now) c.args.creases.now c.loop-one.one-index c.one-item.result c.loop-one-test.true c.one-item.is c.loop-one.invariant (refuted c.is_one.result c.if-is_one.false c.is_one.ensures)
+pub loop-low-preserved-then-comes_before : goal.loop-low-preserved-then-comes_before
+loop-low-preserved-then-comes_before c =
+    let i = c.loop-low.low + (c.loop-low.high - c.loop-low.low) / 2 in
+    let inside : i < length c.args.creases.now = omega (arith, c.loop-low.invariant.below, c.loop-low-test.true) in
+    record {
+      below = c.loop-low.invariant.below;
+      within = places_behind c.args.creases.now c.args.crease.now c.index-creases-middle.result i c.loop-low.low c.loop-low.high c.requires inside c.index-creases-middle.is (moved _ c.index-creases-middle.result _ c.args.crease.now c.one.view_is c.crease.view_is (shown c.comes_before.result c.if-comes_before.true c.comes_before.ensures)) c.loop-low.invariant.within;
+    }
 
-pub returns-then-is_one : goal.returns-then-is_one
-returns-then-is_one c = answers_yes (Contains c.args.creases.now c.args.crease.now)
-    (subst (Contains c.args.creases.now) (c.is_one.ensures.0 c.if-is_one.true) (subst (Contains c.args.creases.now) (sym c.one-item.is) (Contains-get_or c.args.creases.now c.loop-one.one-index c.one-item.result c.loop-one-test.true)))
+pub loop-low-preserved : goal.loop-low-preserved
+loop-low-preserved c =
+    let i = c.loop-low.low + (c.loop-low.high - c.loop-low.low) / 2 in
+    let inside : i < length c.args.creases.now = omega (arith, c.loop-low.invariant.below, c.loop-low-test.true) in
+    record {
+      below = omega (arith, inside);
+      within = places_before c.args.creases.now c.args.crease.now c.index-creases-middle.result i c.loop-low.low c.loop-low.high c.requires inside c.index-creases-middle.is
+          (moved _ c.args.crease.now _ c.index-creases-middle.result c.crease.view_is c.one.view_is (shown c.comes_before-else-comes_before.result c.if-comes_before-2.true c.comes_before-else-comes_before.ensures)) c.loop-low.invariant.within;
+    }
+
+pub returns-else-comes_before-2 : goal.returns-else-comes_before-2
+returns-else-comes_before-2 c =
+    let i = c.loop-low.low + (c.loop-low.high - c.loop-low.low) / 2 in
+    let inside : i < length c.args.creases.now = omega (arith, c.loop-low.invariant.below, c.loop-low-test.true) in
+    places_here c.args.creases.now c.args.crease.now c.index-creases-middle.result i c.is_one.result c.requires inside c.index-creases-middle.is
+    (λ b. refuted c.comes_before.result c.if-comes_before.false c.comes_before.ensures (moved c.index-creases-middle.result _ c.args.crease.now _ (sym c.one.view_is) (sym c.crease.view_is) b))
+    (λ b. refuted c.comes_before-else-comes_before.result c.if-comes_before-2.false c.comes_before-else-comes_before.ensures (moved c.args.crease.now _ c.index-creases-middle.result _ (sym c.crease.view_is) (sym c.one.view_is) b)) c.is_one.ensures
 
 pub returns : goal.returns
-returns c = answers_no (Contains c.args.creases.now c.args.crease.now)
-    (λ d. All-contains (IsOther c.args.crease.now) c.args.creases.now c.args.crease.now (all_tested (IsOther c.args.crease.now) c.args.creases.now c.loop-one.one-index c.loop-one-test.false c.loop-one.invariant) d refl)
+returns c = answers_no (Contains c.args.creases.now c.args.crease.now) (no_place c.args.creases.now c.args.crease.now c.loop-low.low c.loop-low.high c.loop-low-test.false c.loop-low.invariant.within)

@@ -1,4 +1,4 @@
-use Rattle.std.proofs.Common.{◌≡◌, ◌≢◌, Bool, true, false, sym, subst, ap, ◌∙◌, rules}
+use Rattle.std.proofs.Common.{◌≡◌, ◌≢◌, Bool, true, false, refl, sym, subst, ap, ◌∙◌, rules}
 use Rattle.std.specs.Prelude.{IsTrue, ◌↔◌}
 use Rattle.std.specs.declared.cmp.Ordering.{Ordering}
 use Rattle.std.specs.Ordering.{is_eq}
@@ -8,10 +8,15 @@ use Rattle.plane.specs.Order.{segment_cmp}
 use Rattle.plane.proofs.Orders.{segment_exact}
 use Rattle.sheet.specs.Pattern.{ExactCrease}
 use Rattle.sheet.specs.contracts.Colour.{the_type}
-use Rattle.pattern.proofs.Keys.{tied}
-use Rattle.pattern.proofs.Members.{crease_same, tied_segments, colour_itself}
+use Rattle.std.specs.declared.cmp.Ordering.TheVariants as o
+use Rattle.creases.proofs.callers.Members.{crease_same, tied_segments, colour_itself}
 use Rattle.pattern.proofs.Told.{answers_not}
 use Rattle.pattern.proofs.fits.is_one.Goals as goal
+
+tied : (r : Ordering) → is_eq r ≡ true → r ≡ o.Equal
+tied o.Less h = cc
+tied o.Equal h = refl
+tied o.Greater h = cc
 
 one_segment : (s t : ExactSegment) (r : Ordering) (b : Bool) → r ≡ segment_cmp s t → b ≡ is_eq r → b ≡ true → s ≡ t
 one_segment s t r b e f g = segment_exact s t (sym e ∙ tied r (sym f ∙ g))
