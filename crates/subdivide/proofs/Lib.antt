@@ -13,3 +13,10 @@ mod Gathered
 mod Steps
 mod ChainEdges
 pub mod OneAnswer
+mod Known
+pub mod FanRays
+pub mod Rays
+pub mod Noting
+pub mod FansHeld
+pub mod StarsKept
+pub mod OneStar

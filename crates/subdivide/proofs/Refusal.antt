@@ -6,7 +6,7 @@ use Rattle.std.proofs.lemmas.List.Elements.{Contains-get_or}
 use Rattle.std.proofs.lemmas.Bool.{cases_lt, cases_order}
 use Rattle.exact.specs.Plane.{ExactPoint, ExactSegment, SegmentBefore, Cross, IsPointRepresentable}
 use Rattle.sheet.specs.Sheet.{sides}
-use Rattle.sheet.specs.Pattern.{ExactCrease, IsPattern}
+use Rattle.sheet.specs.Pattern.{ExactCrease, ExactPattern, IsPattern}
 use Rattle.subdivide.specs.Subdivision.{Line, lines, IsLine, OutOfRange, Answer, CutOf}
 use Rattle.subdivide.specs.Crossings.{CrossesOut}
 use Rattle.subdivide.specs.Lines.{AreLinesOf, RefusesPairFirst}
@@ -20,89 +20,89 @@ cross_back : (s t : ExactSegment) (v : ExactPoint) → Cross s t v → Cross t s
 cross_back s t v c = record { here = (c.here.1, c.here.0); only = λ u o. c.only u (o.1, o.0) }
 
 -- a line at a place with a crossing that cannot be held is a crease
-record AtCrease (creases : List ExactCrease) (place : ℕ) (s : ExactSegment) : Type 0 where
+record AtCrease (pattern : ExactPattern) (place : ℕ) (s : ExactSegment) : Type 0 where
   pub index : ℕ
   pub is : place ≡ 4 + index
-  pub stands : Stands creases index s
+  pub stands : Stands pattern index s
 
-of_line : (creases : List ExactCrease) (place : ℕ) (l : Line) → slice_get (lines creases) place ≡ Some l → Contains sides l.seg ⊎ AtCrease creases place l.seg
-of_line creases place l e = elim (cases_lt place 4) [
-  | inl h ↦ inl (side_place creases place l h e)
-  | inr h ↦ inr (record { index = place - 4; is = back place h; stands = crease_place creases place l h e })
+of_line : (pattern : ExactPattern) (place : ℕ) (l : Line) → slice_get (lines pattern) place ≡ Some l → Contains (sides pattern.sheet) l.seg ⊎ AtCrease pattern place l.seg
+of_line pattern place l e = elim (cases_lt place 4) [
+  | inl h ↦ inl (side_place pattern place l h e)
+  | inr h ↦ inr (record { index = place - 4; is = back place h; stands = crease_place pattern place l h e })
 ]
   where
     back : (n : ℕ) → 4 ≤ n → n ≡ 4 + (n - 4)
     back n h = omega arith
 
-at_crease : (creases : List ExactCrease) → IsPattern creases → (s t : ExactSegment) (i j : ℕ) (l m : Line) → slice_get (lines creases) i ≡ Some l → slice_get (lines creases) j ≡ Some m → l.seg ≡ s → m.seg ≡ t → CrossesOut s t → AtCrease creases i s × AtCrease creases j t
-at_crease creases p s t i j l m e f g h o = (first, second)
+at_crease : (pattern : ExactPattern) → IsPattern pattern → (s t : ExactSegment) (i j : ℕ) (l m : Line) → slice_get (lines pattern) i ≡ Some l → slice_get (lines pattern) j ≡ Some m → l.seg ≡ s → m.seg ≡ t → CrossesOut s t → AtCrease pattern i s × AtCrease pattern j t
+at_crease pattern p s t i j l m e f g h o = (first, second)
   where
-    a : IsLine creases s
-    a = subst (IsLine creases) g (l.kind, line_in (lines creases) i l e)
+    a : IsLine pattern s
+    a = subst (IsLine pattern) g (l.kind, line_in (lines pattern) i l e)
 
-    b : IsLine creases t
-    b = subst (IsLine creases) h (m.kind, line_in (lines creases) j m f)
+    b : IsLine pattern t
+    b = subst (IsLine pattern) h (m.kind, line_in (lines pattern) j m f)
 
-    first : AtCrease creases i s
-    first = elim (of_line creases i l e) [
-      | inl c ↦ absurd (o.2 (side_in_range creases p s t o.0 (subst (λ z. Contains sides z) g c) a b o.1))
-      | inr c ↦ subst (AtCrease creases i) g c
+    first : AtCrease pattern i s
+    first = elim (of_line pattern i l e) [
+      | inl c ↦ absurd (o.2 (side_in_range pattern p s t o.0 (subst (λ z. Contains (sides pattern.sheet) z) g c) a b o.1))
+      | inr c ↦ subst (AtCrease pattern i) g c
     ]
 
-    second : AtCrease creases j t
-    second = elim (of_line creases j m f) [
-      | inl c ↦ absurd (o.2 (side_in_range creases p t s o.0 (subst (λ z. Contains sides z) h c) b a (cross_back s t o.0 o.1)))
-      | inr c ↦ subst (AtCrease creases j) h c
+    second : AtCrease pattern j t
+    second = elim (of_line pattern j m f) [
+      | inl c ↦ absurd (o.2 (side_in_range pattern p t s o.0 (subst (λ z. Contains (sides pattern.sheet) z) h c) b a (cross_back s t o.0 o.1)))
+      | inr c ↦ subst (AtCrease pattern j) h c
     ]
 
-in_creases : (creases : List ExactCrease) (i : ℕ) (s : ExactSegment) → Stands creases i s → Contains (map (λ (f : ExactCrease). f.seg) creases) s
-in_creases creases i s h = subst (λ z. Contains (map (λ (f : ExactCrease). f.seg) creases) z) (h.is (some_crease s)) (map_contains (λ (f : ExactCrease). f.seg) creases (get_or creases i (some_crease s)) (Contains-get_or creases i (some_crease s) h.within))
+in_creases : (pattern : ExactPattern) (i : ℕ) (s : ExactSegment) → Stands pattern i s → Contains (map (λ (f : ExactCrease). f.seg) pattern.creases) s
+in_creases pattern i s h = subst (λ z. Contains (map (λ (f : ExactCrease). f.seg) pattern.creases) z) (h.is (some_crease s)) (map_contains (λ (f : ExactCrease). f.seg) pattern.creases (get_or pattern.creases i (some_crease s)) (Contains-get_or pattern.creases i (some_crease s) h.within))
 
-pub cross_out : (creases : List ExactCrease) (ls : List Line) (s t : ExactSegment) → AreLinesOf creases ls → RefusesPairFirst s t ls → CutOf creases (Answer.CrossRange s t)
-cross_out creases ls s t a r = first_out creases p x.index y.index s t x.stands y.stands (ordered, in_creases creases x.index s x.stands, in_creases creases y.index t y.stands, o) none
+pub cross_out : (pattern : ExactPattern) (ls : List Line) (s t : ExactSegment) → AreLinesOf pattern ls → RefusesPairFirst s t ls → CutOf pattern (Answer.CrossRange s t)
+cross_out pattern ls s t a r = first_out pattern p x.index y.index s t x.stands y.stands (ordered, in_creases pattern x.index s x.stands, in_creases pattern y.index t y.stands, o) none
   where
-    p : IsPattern creases
-    p = a.pattern
+    p : IsPattern pattern
+    p = a.is
 
     o : CrossesOut s t
     o = r.rest.out
 
-    e : slice_get (lines creases) r.place ≡ Some r.line
+    e : slice_get (lines pattern) r.place ≡ Some r.line
     e = subst (λ z. slice_get z r.place ≡ Some r.line) a.same r.stands
 
-    f : slice_get (lines creases) r.rest.place ≡ Some r.rest.line
+    f : slice_get (lines pattern) r.rest.place ≡ Some r.rest.line
     f = subst (λ z. slice_get z r.rest.place ≡ Some r.rest.line) a.same r.rest.stands
 
-    both : AtCrease creases r.place s × AtCrease creases r.rest.place t
-    both = at_crease creases p s t r.place r.rest.place r.line r.rest.line e f r.is r.rest.is o
+    both : AtCrease pattern r.place s × AtCrease pattern r.rest.place t
+    both = at_crease pattern p s t r.place r.rest.place r.line r.rest.line e f r.is r.rest.is o
 
-    x : AtCrease creases r.place s
+    x : AtCrease pattern r.place s
     x = both.0
 
-    y : AtCrease creases r.rest.place t
+    y : AtCrease pattern r.rest.place t
     y = both.1
 
     -- a line before the first has no crossing that cannot be held
-    before : (i : ℕ) (u w : ExactSegment) (j : ℕ) (v : ExactPoint) → i < x.index → Stands creases i u → Stands creases j w → Cross u w v → IsPointRepresentable v
-    before i u w j v h c d g = (let l = line_of creases i u c in let m = line_of creases j w d in
-        r.before (4 + i) l.0 m.0 v (omega (arith, h, x.is)) (subst (λ z. slice_get z (4 + i) ≡ Some l.0) (sym a.same) l.1) (subst (λ z. Contains z m.0) (sym a.same) (line_in (lines creases) (4 + j) m.0 m.1)) (crossing u w l.0.seg m.0.seg v (sym l.2) (sym m.2) g))
+    before : (i : ℕ) (u w : ExactSegment) (j : ℕ) (v : ExactPoint) → i < x.index → Stands pattern i u → Stands pattern j w → Cross u w v → IsPointRepresentable v
+    before i u w j v h c d g = (let l = line_of pattern i u c in let m = line_of pattern j w d in
+        r.before (4 + i) l.0 m.0 v (omega (arith, h, x.is)) (subst (λ z. slice_get z (4 + i) ≡ Some l.0) (sym a.same) l.1) (subst (λ z. Contains z m.0) (sym a.same) (line_in (lines pattern) (4 + j) m.0 m.1)) (crossing u w l.0.seg m.0.seg v (sym l.2) (sym m.2) g))
       where
         crossing : (u w u' w' : ExactSegment) (v : ExactPoint) → u ≡ u' → w ≡ w' → Cross u w v → Cross u' w' v
         crossing u w u' w' v q k g = rw (← q, ← k) g
 
-    after : (j : ℕ) (w : ExactSegment) (v : ExactPoint) → j < y.index → Stands creases j w → Cross s w v → IsPointRepresentable v
-    after j w v h d g = (let m = line_of creases j w d in
+    after : (j : ℕ) (w : ExactSegment) (v : ExactPoint) → j < y.index → Stands pattern j w → Cross s w v → IsPointRepresentable v
+    after j w v h d g = (let m = line_of pattern j w d in
         r.rest.before (4 + j) m.0 v (omega (arith, h, y.is)) (subst (λ z. slice_get z (4 + j) ≡ Some m.0) (sym a.same) m.1) (subst (λ z. Cross s z v) (sym m.2) g))
 
-    same_stand : (i : ℕ) (u w : ExactSegment) → Stands creases i u → Stands creases i w → u ≡ w
+    same_stand : (i : ℕ) (u w : ExactSegment) → Stands pattern i u → Stands pattern i w → u ≡ w
     same_stand i u w c d = sym (c.is (some_crease u)) ∙ d.is (some_crease u)
 
     ordered : SegmentBefore s t
     ordered = elim (cases_order x.index y.index) [
-      | inl q ↦ (let k = line_along creases p s (r.line.kind, subst (λ z. Contains (lines creases) z) (named r.line s r.is) (line_in (lines creases) r.place r.line e)) in
-          absurd (no_self_cross s k.0 o.0 k.1 (subst (λ z. Cross s z o.0) (same_stand x.index t s (subst (λ n. Stands creases n t) (sym q) y.stands) x.stands) o.1)))
+      | inl q ↦ (let k = line_along pattern p s (r.line.kind, subst (λ z. Contains (lines pattern) z) (named r.line s r.is) (line_in (lines pattern) r.place r.line e)) in
+          absurd (no_self_cross s k.0 o.0 k.1 (subst (λ z. Cross s z o.0) (same_stand x.index t s (subst (λ n. Stands pattern n t) (sym q) y.stands) x.stands) o.1)))
       | inr k ↦ elim k [
-        | inl l ↦ earlier creases p s t x.index y.index x.stands y.stands l
+        | inl l ↦ earlier pattern p s t x.index y.index x.stands y.stands l
         | inr g ↦ absurd (o.2 (before y.index t s x.index o.0 g y.stands x.stands (cross_back s t o.0 o.1)))
       ]
     ]
@@ -110,8 +110,8 @@ cross_out creases ls s t a r = first_out creases p x.index y.index s t x.stands 
         named : (l : Line) (u : ExactSegment) → l.seg ≡ u → l ≡ record { seg = u; kind = l.kind }
         named l u q = ap (λ z. (let m : Line = record { seg = z; kind = l.kind } in m)) q
 
-    none : (i j : ℕ) (u w : ExactSegment) → i < j → Stands creases i u → Stands creases j w → (i < x.index) ⊎ ((i ≡ x.index) × (j < y.index)) → ¬ OutOfRange creases u w
+    none : (i j : ℕ) (u w : ExactSegment) → i < j → Stands pattern i u → Stands pattern j w → (i < x.index) ⊎ ((i ≡ x.index) × (j < y.index)) → ¬ OutOfRange pattern u w
     none i j u w h c d q z = elim q [
       | inl l ↦ z.3.2 (before i u w j z.3.0 l c d z.3.1)
-      | inr k ↦ z.3.2 (after j w z.3.0 k.1 d (subst (λ b. Cross b w z.3.0) (same_stand i u s c (subst (λ n. Stands creases n s) (sym k.0) x.stands)) z.3.1))
+      | inr k ↦ z.3.2 (after j w z.3.0 k.1 d (subst (λ b. Cross b w z.3.0) (same_stand i u s c (subst (λ n. Stands pattern n s) (sym k.0) x.stands)) z.3.1))
     ]

@@ -7,17 +7,18 @@ use Rattle.std.proofs.lemmas.Option.{slice_get_within, get_or_from_slice_get, sl
 use Rattle.exact.specs.Plane.{ExactPoint, SamePoint, ExactSegment, Cross, IsPointCanonical, IsPointRepresentable}
 use Rattle.geometry.proofs.PointOrder.{same_trans}
 use Rattle.sheet.specs.Sheet.{corner}
-use Rattle.sheet.specs.Pattern.{ExactCrease}
+use Rattle.sheet.specs.Pattern.{ExactCrease, ExactPattern}
 use Rattle.chains.specs.Chains.{Ascends, AreNeighbours}
 use Rattle.chains.proofs.Sorted.{ordered_of, no_longer}
-use Rattle.subdivide.specs.Subdivision.{Line, lines, IsLine, EdgePlaces, InRange, Answer, CutOf, AreVertices}
+use Rattle.subdivide.specs.Subdivision.{Line, lines, IsLine, EdgePlaces, InRange, Answer, CutOf, AreVertices, vertex_limit}
 use Rattle.subdivide.specs.Chain.{IsFound, IsChain, InChain, IsStep, AreSteps, KindedBefore}
 use Rattle.subdivide.specs.Crossings.{IsChainAmong, RefusesFirst, RefusesChain}
 use Rattle.plane.specs.Order.{point_cmp}
 use Rattle.subdivide.specs.Gathered.{HoldsChains, AreChains, IsOverfull, IsGathered}
 use Rattle.subdivide.specs.Steps.{IsStepOf, IsStepOfOne, HoldsSteps}
 use Rattle.subdivide.specs.Lines.{AreLinesOf, RefusesLines}
-use Rattle.subdivide.specs.Refusals.{RefusesCut}
+use Rattle.ports.specs.Stops.{Refuses}
+use Rattle.subdivide.specs.CutAnswers.{IsCutAnswer}
 use Rattle.subdivide.specs.declared.edge.CutBad.{CutBad}
 use Rattle.subdivide.specs.declared.edge.CutBad.TheVariants as bad
 use Rattle.ports.specs.declared.stop.Stop.{Stop}
@@ -37,17 +38,17 @@ line_at : (ls : List Line) (l : Line) → Contains ls l → (k : ℕ) × (k < le
 line_at ls l c = (c.0, c.1, slice_get_read ls (length ls) c.0 l refl c.1 (sym c.2))
 
 -- the ends and crossings of a line are its chain
-pub is_chain : (creases : List ExactCrease) (ls : List Line) (l : Line) (chain : List ExactPoint) → AreLinesOf creases ls → Contains ls l → IsChainAmong l.seg ls chain → IsChain creases l.seg chain
-is_chain creases ls l chain a c h = chain_of_points creases (pattern_lines creases a.pattern) l.seg chain (l.kind, subst (λ z. Contains z l) a.same c) h.ordered
-    (all_from (IsFound creases l.seg) chain each) all
+pub is_chain : (pattern : ExactPattern) (ls : List Line) (l : Line) (chain : List ExactPoint) → AreLinesOf pattern ls → Contains ls l → IsChainAmong l.seg ls chain → IsChain pattern l.seg chain
+is_chain pattern ls l chain a c h = chain_of_points pattern (pattern_lines pattern a.is) l.seg chain (l.kind, subst (λ z. Contains z l) a.same c) h.ordered
+    (all_from (IsFound pattern l.seg) chain each) all
   where
-    each : (v : ExactPoint) → Contains chain v → IsFound creases l.seg v
+    each : (v : ExactPoint) → Contains chain v → IsFound pattern l.seg v
     each v x = elim (All-contains (λ v. SamePoint v l.seg.p ⊎ (SamePoint v l.seg.q ⊎ ((m : Line) × Contains ls m × Cross l.seg m.seg v))) chain v h.each x) [
       | inl s ↦ inl s
       | inr y ↦ elim y [ inl s ↦ inr (inl s) | inr m ↦ inr (inr (m.0.seg, (m.0.kind, subst (λ z. Contains z m.0) a.same m.1), m.2)) ]
     ]
 
-    all : (v : ExactPoint) → IsFound creases l.seg v → (w : ExactPoint) × Contains chain w × SamePoint v w
+    all : (v : ExactPoint) → IsFound pattern l.seg v → (w : ExactPoint) × Contains chain w × SamePoint v w
     all v x = elim x [
       | inl s ↦ (h.from.0, h.from.1, same_trans v l.seg.p h.from.0 s h.from.2)
       | inr y ↦ elim y [
@@ -56,7 +57,7 @@ is_chain creases ls l chain a c h = chain_of_points creases (pattern_lines creas
       ]
     ]
       where
-        crossing : (t : ExactSegment) → IsLine creases t → Cross l.seg t v → (w : ExactPoint) × Contains chain w × SamePoint v w
+        crossing : (t : ExactSegment) → IsLine pattern t → Cross l.seg t v → (w : ExactPoint) × Contains chain w × SamePoint v w
         crossing t b k = (let m : Line = record { seg = t; kind = b.0 } in let i = line_at ls m (subst (λ z. Contains z m) (sym a.same) b.1) in (h.all.each i.0 m i.1 i.2).held v k)
 
 -- all points in chains are in lowest terms
@@ -67,48 +68,48 @@ held_canonical ls n points h v c = (let w = h.each v c in All-contains IsPointCa
 pub held_in_range : (ls : List Line) (n : ℕ) (points : List ExactPoint) → HoldsChains ls n points → (k : ℕ) (l m : Line) (v : ExactPoint) → k < n → slice_get ls k ≡ Some l → Contains ls m → Cross l.seg m.seg v → IsPointRepresentable v
 held_in_range ls n points h k l m v p e c x = (let w = h.all k l p e in let i = line_at ls m c in let y = (w.1.all.each i.0 m i.1 i.2).held v x in same_held v y.0 y.2 (All-contains IsPointCanonical w.0 y.0 w.1.canonical y.1))
 
-pub in_range : (creases : List ExactCrease) (ls : List Line) (points : List ExactPoint) → AreLinesOf creases ls → HoldsChains ls (length ls) points → InRange creases
-in_range creases ls points a h s t o = (let x = line_of_key s o.1 in let y = line_of_key t o.2 in let i = line_at ls x.0 x.1 in
+pub in_range : (pattern : ExactPattern) (ls : List Line) (points : List ExactPoint) → AreLinesOf pattern ls → HoldsChains ls (length ls) points → InRange pattern
+in_range pattern ls points a h s t o = (let x = line_of_key s o.1 in let y = line_of_key t o.2 in let i = line_at ls x.0 x.1 in
     o.3.2 (held_in_range ls (length ls) points h i.0 x.0 y.0 o.3.0 i.1 i.2 y.1 (crossing s t x.0.seg y.0.seg o.3.0 (sym x.2) (sym y.2) o.3.1)))
   where
-    line_of_key : (u : ExactSegment) → Contains (map (λ (f : ExactCrease). f.seg) creases) u → (l : Line) × Contains ls l × (l.seg ≡ u)
-    line_of_key u c = (let f = contains_map (λ (f : ExactCrease). f.seg) creases u (some_crease u) c in let k = crease_line creases f.0 f.1 in
+    line_of_key : (u : ExactSegment) → Contains (map (λ (f : ExactCrease). f.seg) pattern.creases) u → (l : Line) × Contains ls l × (l.seg ≡ u)
+    line_of_key u c = (let f = contains_map (λ (f : ExactCrease). f.seg) pattern.creases u (some_crease u) c in let k = crease_line pattern f.0 f.1 in
         (record { seg = f.0.seg; kind = k.0 }, subst (λ z. Contains z (record { seg = f.0.seg; kind = k.0 })) (sym a.same) k.1, f.2))
 
     crossing : (u w u' w' : ExactSegment) (v : ExactPoint) → u ≡ u' → w ≡ w' → Cross u w v → Cross u' w' v
     crossing u w u' w' v q k g = rw (← q, ← k) g
 
 -- an ascending list of just these points is that of the vertices
-pub vertices_are : (creases : List ExactCrease) (ls : List Line) (vs : List ExactPoint) → AreLinesOf creases ls → HoldsChains ls (length ls) vs → Ascends point_cmp vs → AreVertices creases vs
-vertices_are creases ls vs a h up = vertices_of_chains creases vs (pattern_lines creases a.pattern) (ascends_before vs canonical up) canonical
-    (all_from (InChain creases) vs each) all
+pub vertices_are : (pattern : ExactPattern) (ls : List Line) (vs : List ExactPoint) → AreLinesOf pattern ls → HoldsChains ls (length ls) vs → Ascends point_cmp vs → AreVertices pattern vs
+vertices_are pattern ls vs a h up = vertices_of_chains pattern vs (pattern_lines pattern a.is) (ascends_before vs canonical up) canonical
+    (all_from (InChain pattern) vs each) all
   where
     canonical : All IsPointCanonical vs
     canonical = all_from IsPointCanonical vs (held_canonical ls (length ls) vs h)
 
-    each : (v : ExactPoint) → Contains vs v → InChain creases v
-    each v c = (let w = h.each v c in (w.0.seg, w.1, is_chain creases ls w.0 w.1 a w.2 w.3, w.4))
+    each : (v : ExactPoint) → Contains vs v → InChain pattern v
+    each v c = (let w = h.each v c in (w.0.seg, w.1, is_chain pattern ls w.0 w.1 a w.2 w.3, w.4))
 
-    all : (s : ExactSegment) → IsLine creases s → (chain : List ExactPoint) × IsChain creases s chain × All (Contains vs) chain
+    all : (s : ExactSegment) → IsLine pattern s → (chain : List ExactPoint) × IsChain pattern s chain × All (Contains vs) chain
     all s b = (let l : Line = record { seg = s; kind = b.0 } in let c = subst (λ z. Contains z l) (sym a.same) b.1 in let i = line_at ls l c in let w = h.all i.0 l i.1 i.2 in
-        (w.0, is_chain creases ls l w.0 a c w.1, all_from (Contains vs) w.0 w.2))
+        (w.0, is_chain pattern ls l w.0 a c w.1, all_from (Contains vs) w.0 w.2))
 
 -- too many points are too many vertices
-pub too_many : (creases : List ExactCrease) (ls : List Line) (points : List ExactPoint) → AreLinesOf creases ls → IsOverfull ls (length ls) points → CutOf creases Answer.TooManyVertices
-too_many creases ls points a o = (let r = ordered_of point_total point_exact o.held in (
-  in_range creases ls o.held a o.holds,
-  (r.0, vertices_are creases ls r.0 a (moved r.0 r.1.keeps r.1.adds) r.1.ascends, omega (arith, o.many, no_longer point_total points r.0 o.ascends r.1.ascends (λ v c. r.1.keeps v (o.within v c)))),
+pub too_many : (pattern : ExactPattern) (ls : List Line) (points : List ExactPoint) → AreLinesOf pattern ls → IsOverfull ls (length ls) points → CutOf pattern Answer.TooManyVertices
+too_many pattern ls points a o = (let r = ordered_of point_total point_exact o.held in (
+  in_range pattern ls o.held a o.holds,
+  (r.0, vertices_are pattern ls r.0 a (moved r.0 r.1.keeps r.1.adds) r.1.ascends, omega (arith, o.many, no_longer point_total points r.0 o.ascends r.1.ascends (λ v c. r.1.keeps v (o.within v c)))),
 ))
   where
     moved : (vs : List ExactPoint) → ((v : ExactPoint) → Contains o.held v → Contains vs v) → ((v : ExactPoint) → Contains vs v → Contains o.held v) → HoldsChains ls (length ls) vs
     moved vs f g = record { each = λ v c. o.holds.each v (g v c); all = λ k l p e. (let w = o.holds.all k l p e in (w.0, w.1, λ v c. f v (w.2 v c))) }
 
-abbrev StepIn : List ExactCrease → List ExactPoint → EdgePlaces → Type 0
-StepIn creases vs e = (u v : ExactPoint) × (slice_get vs e.from ≡ Some u) × (slice_get vs e.to ≡ Some v) × IsStep creases e.kind u v
+abbrev StepIn : ExactPattern → List ExactPoint → EdgePlaces → Type 0
+StepIn pattern vs e = (u v : ExactPoint) × (slice_get vs e.from ≡ Some u) × (slice_get vs e.to ≡ Some v) × IsStep pattern e.kind u v
 
 -- a step of one of the chains
-step_in : (creases : List ExactCrease) (ls : List Line) (chains : List Chain) (vs : List ExactPoint) → AreLinesOf creases ls → AreChains ls (length ls) chains vs → (e : EdgePlaces) → IsStepOfOne vs chains e → StepIn creases vs e
-step_in creases ls chains vs a h e s = (
+step_in : (pattern : ExactPattern) (ls : List Line) (chains : List Chain) (vs : List ExactPoint) → AreLinesOf pattern ls → AreChains ls (length ls) chains vs → (e : EdgePlaces) → IsStepOfOne vs chains e → StepIn pattern vs e
+step_in pattern ls chains vs a h e s = (
   u,
   v,
   slice_get_read vs (length vs) e.from u refl t.from_in (sym (t.from d)),
@@ -116,8 +117,8 @@ step_in creases ls chains vs a h e s = (
   record {
     line = l.seg;
     chain = chain;
-    is = subst (λ z. Contains (lines creases) z) (named l e.kind (sym (t.kind_is ∙ w.0))) (subst (λ z. Contains z l) a.same here);
-    chained = is_chain creases ls l chain a here w.1;
+    is = subst (λ z. Contains (lines pattern) z) (named l e.kind (sym (t.kind_is ∙ w.0))) (subst (λ z. Contains z l) a.same here);
+    chained = is_chain pattern ls l chain a here w.1;
     next = record { place = t.place; within = t.within; first = get_or_default chain t.place u d (omega (arith, t.within)); second = get_or_default chain (t.place + 1) v d t.within };
   },
 )
@@ -129,7 +130,7 @@ step_in creases ls chains vs a h e s = (
     chain = s.0.points.items
 
     d : ExactPoint
-    d = corner 0 0
+    d = corner pattern.sheet 0 0
 
     u : ExactPoint
     u = get_or chain t.place d
@@ -159,24 +160,24 @@ step_in creases ls chains vs a h e s = (
     named l j q = ap (λ z. (let m : Line = record { seg = l.seg; kind = z } in m)) q
 
 -- what the loops leave are the steps
-pub steps_are : (creases : List ExactCrease) (ls : List Line) (chains : List Chain) (vs : List ExactPoint) (es : List EdgePlaces) → AreLinesOf creases ls → AreChains ls (length ls) chains vs → AllPairs KindedBefore es → HoldsSteps vs chains (length chains) es → AreSteps creases vs es
-steps_are creases ls chains vs es a h up s = record {
+pub steps_are : (pattern : ExactPattern) (ls : List Line) (chains : List Chain) (vs : List ExactPoint) (es : List EdgePlaces) → AreLinesOf pattern ls → AreChains ls (length ls) chains vs → AllPairs KindedBefore es → HoldsSteps vs chains (length chains) es → AreSteps pattern vs es
+steps_are pattern ls chains vs es a h up s = record {
   ordered = up;
-  each = all_from (StepIn creases vs) es (λ e c. step_in creases ls chains vs a h e (s.each e c));
+  each = all_from (StepIn pattern vs) es (λ e c. step_in pattern ls chains vs a h e (s.each e c));
   all = all;
 }
   where
-    all : (t : ExactSegment) (k : EdgeKind) → Contains (lines creases) (record { seg = t; kind = k }) →
-        (chain : List ExactPoint) × IsChain creases t chain × All (Contains vs) chain × ((u v : ExactPoint) (i j : ℕ) → AreNeighbours chain u v → slice_get vs i ≡ Some u → slice_get vs j ≡ Some v → Contains es (record { from = i; to = j; kind = k }))
+    all : (t : ExactSegment) (k : EdgeKind) → Contains (lines pattern) (record { seg = t; kind = k }) →
+        (chain : List ExactPoint) × IsChain pattern t chain × All (Contains vs) chain × ((u v : ExactPoint) (i j : ℕ) → AreNeighbours chain u v → slice_get vs i ≡ Some u → slice_get vs j ≡ Some v → Contains es (record { from = i; to = j; kind = k }))
     all t k m = (let l : Line = record { seg = t; kind = k } in let c = subst (λ z. Contains z l) (sym a.same) m in let n = line_at ls l c in of_line l c n.0 n.1 n.2)
       where
         of_line : (l : Line) → Contains ls l → (n : ℕ) → n < length ls → slice_get ls n ≡ Some l →
-            (chain : List ExactPoint) × IsChain creases l.seg chain × All (Contains vs) chain × ((u v : ExactPoint) (i j : ℕ) → AreNeighbours chain u v → slice_get vs i ≡ Some u → slice_get vs j ≡ Some v → Contains es (record { from = i; to = j; kind = l.kind }))
+            (chain : List ExactPoint) × IsChain pattern l.seg chain × All (Contains vs) chain × ((u v : ExactPoint) (i j : ℕ) → AreNeighbours chain u v → slice_get vs i ≡ Some u → slice_get vs j ≡ Some v → Contains es (record { from = i; to = j; kind = l.kind }))
         of_line l c n p e = elim (slice_get_cases chains n).1 [
           | inr x ↦ absurd (omega (arith, p, x.0, h.count))
           | inl x ↦ (let w = h.each n l x.0 e x.2 in (
             x.0.points.items,
-            is_chain creases ls l x.0.points.items a c w.1,
+            is_chain pattern ls l x.0.points.items a c w.1,
             all_from (Contains vs) x.0.points.items w.2,
             λ u v i j q f g. s.all n x.0 (record { from = i; to = j; kind = l.kind }) x.1 (subst (IsStepOfChain i j) (sym (get_or_from_slice_get chains n x.0 x.0 x.2)) (step x.0 (sym w.0) u v i j q f g)),
           ))
@@ -197,13 +198,13 @@ steps_are creases ls chains vs es a h up s = record {
             }
 
 -- the answer
-pub cut_is : (creases : List ExactCrease) (ls : List Line) (chains : List Chain) (vs : List ExactPoint) (es : List EdgePlaces) → AreLinesOf creases ls → HoldsChains ls (length ls) vs → AreChains ls (length ls) chains vs → Ascends point_cmp vs → length vs ≤ 100000
-    → AllPairs KindedBefore es → HoldsSteps vs chains (length chains) es → CutOf creases (Answer.Cut vs es)
-cut_is creases ls chains vs es a h c up few k s = (let w = vertices_are creases ls vs a h up in (
-  in_range creases ls vs a h,
+pub cut_is : (pattern : ExactPattern) (ls : List Line) (chains : List Chain) (vs : List ExactPoint) (es : List EdgePlaces) → AreLinesOf pattern ls → HoldsChains ls (length ls) vs → AreChains ls (length ls) chains vs → Ascends point_cmp vs → length vs ≤ vertex_limit
+    → AllPairs KindedBefore es → HoldsSteps vs chains (length chains) es → CutOf pattern (Answer.Cut vs es)
+cut_is pattern ls chains vs es a h c up few k s = (let w = vertices_are pattern ls vs a h up in (
+  in_range pattern ls vs a h,
   w,
   few,
-  edges_of_steps creases vs es (pattern_lines creases a.pattern) w (steps_are creases ls chains vs es a c k s),
+  edges_of_steps pattern vs es (pattern_lines pattern a.is) w (steps_are pattern ls chains vs es a c k s),
 ))
 
 -- whatever was gathered, there is a list of the points of the first n chains
@@ -228,10 +229,10 @@ refuses_lines ls n g l u (stop.Why (bad.CrossRange first second)) h f q r = (let
 refuses_lines ls n g l u (stop.Why bad.TooManyVertices) h f q r = r
 
 -- what is refused of the lines is refused of the pattern
-pub refuses_cut : (creases : List ExactCrease) (ls : List Line) (e : Stop CutBad) → AreLinesOf creases ls → RefusesLines ls e → RefusesCut creases e
-refuses_cut creases ls stop.NoMemory a h = tt
-refuses_cut creases ls (stop.Why (bad.CrossRange first second)) a h = cross_out creases ls first second a h
-refuses_cut creases ls (stop.Why bad.TooManyVertices) a h = absurd h
+pub refuses_cut : (pattern : ExactPattern) (ls : List Line) (e : Stop CutBad) → AreLinesOf pattern ls → RefusesLines ls e → Refuses (IsCutAnswer pattern) e
+refuses_cut pattern ls stop.NoMemory a h = tt
+refuses_cut pattern ls (stop.Why (bad.CrossRange first second)) a h = cross_out pattern ls first second a h
+refuses_cut pattern ls (stop.Why bad.TooManyVertices) a h = absurd h
 
 -- the chains are made of the points
 pub chains_within : (ls : List Line) (chains chains' : List Chain) (vs vs' : List ExactPoint) → chains' ≡ chains → vs' ≡ vs → AreChains ls (length ls) chains vs → All (λ (c : Chain). All (Contains vs') c.points.items) chains'
@@ -244,6 +245,6 @@ chains_within ls chains chains' vs vs' e f h = rw (e, f) (all_from (λ (c : Chai
     ]
 
 -- the same, by lists that are equal
-pub cut_by : (creases : List ExactCrease) (ls : List Line) (chains chains' : List Chain) (vs vs' : List ExactPoint) (es : List EdgePlaces) → chains' ≡ chains → vs' ≡ vs → AreLinesOf creases ls → HoldsChains ls (length ls) vs → AreChains ls (length ls) chains vs → Ascends point_cmp vs → length vs ≤ 100000
-    → AllPairs KindedBefore es → HoldsSteps vs' chains' (length chains') es → CutOf creases (Answer.Cut vs es)
-cut_by creases ls chains chains' vs vs' es e f a h c up few k s = cut_is creases ls chains vs es a h c up few k (subst (λ z. HoldsSteps z chains (length chains) es) f (subst (λ z. HoldsSteps vs' z (length z) es) e s))
+pub cut_by : (pattern : ExactPattern) (ls : List Line) (chains chains' : List Chain) (vs vs' : List ExactPoint) (es : List EdgePlaces) → chains' ≡ chains → vs' ≡ vs → AreLinesOf pattern ls → HoldsChains ls (length ls) vs → AreChains ls (length ls) chains vs → Ascends point_cmp vs → length vs ≤ vertex_limit
+    → AllPairs KindedBefore es → HoldsSteps vs' chains' (length chains') es → CutOf pattern (Answer.Cut vs es)
+cut_by pattern ls chains chains' vs vs' es e f a h c up few k s = cut_is pattern ls chains vs es a h c up few k (subst (λ z. HoldsSteps z chains (length chains) es) f (subst (λ z. HoldsSteps vs' z (length z) es) e s))

@@ -3,7 +3,7 @@ use Rattle.std.specs.Prelude.{◌≡◌, ℕ, ◌<◌, true, false, List, length
 use Rattle.exact.specs.Plane.{ExactPoint}
 use Rattle.chains.specs.Chains.{Ascends}
 use Rattle.plane.specs.Order.{point_cmp}
-use Rattle.subdivide.specs.Subdivision.{Line}
+use Rattle.subdivide.specs.Subdivision.{Line, vertex_limit}
 use Rattle.subdivide.specs.Crossings.{IsChainAmong}
 use Rattle.subdivide.specs.declared.gather.Chain.{Chain}
 use Rattle.subdivide.specs.declared.gather.Gathered.{Gathered}
@@ -28,7 +28,7 @@ pub record IsOverfull (lines : List Line) (n : ℕ) (points : List ExactPoint) :
   pub holds : HoldsChains lines n held
   pub ascends : Ascends point_cmp points
   pub within : (v : ExactPoint) → Contains points v → Contains held v
-  pub many : 100000 < length points
+  pub many : vertex_limit < length points
 
 -- what is gathered from the first n lines
 pub record IsGathered (lines : List Line) (n : ℕ) (g : Gathered) : Type 0 where

@@ -4,4 +4,7 @@ pub mod Crossings
 pub mod Gathered
 pub mod Steps
 pub mod Lines
-pub mod Refusals
+pub mod CutAnswers
+pub mod Star
+pub mod Live
+pub mod Fans

@@ -1,7 +1,7 @@
 -- The lines of a pattern as a list, and what the loop over them refuses.
 use Rattle.std.specs.Prelude.{◌≡◌, ℕ, ◌<◌, List, Contains, slice_get, Some}
 use Rattle.exact.specs.Plane.{ExactPoint, ExactSegment, Cross, IsPointRepresentable}
-use Rattle.sheet.specs.Pattern.{ExactCrease, IsPattern}
+use Rattle.sheet.specs.Pattern.{ExactPattern, IsPattern}
 use Rattle.subdivide.specs.Subdivision.{Line, lines}
 use Rattle.subdivide.specs.Crossings.{RefusesFirst}
 use Rattle.subdivide.specs.declared.edge.CutBad.{CutBad}
@@ -10,9 +10,9 @@ use Rattle.ports.specs.declared.stop.Stop.{Stop}
 use Rattle.ports.specs.declared.stop.Stop.TheVariants as stop
 
 -- the sides and then the creases of a pattern
-pub record AreLinesOf (creases : List ExactCrease) (ls : List Line) : Type 0 where
-  pub pattern : IsPattern creases
-  pub same : ls ≡ lines creases
+pub record AreLinesOf (pattern : ExactPattern) (ls : List Line) : Type 0 where
+  pub is : IsPattern pattern
+  pub same : ls ≡ lines pattern
 
 -- the first line that has a crossing that cannot be held, and the first line where it has it
 pub record RefusesPairFirst (s t : ExactSegment) (ls : List Line) : Type 0 where

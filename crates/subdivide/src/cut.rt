@@ -1,13 +1,14 @@
 //! A pattern is cut line after line: the chain of each, then all points once, then all edges.
 
 ghost use Rattle.std.specs.Prelude.{◌≡◌, ℕ, ◌≤◌, List, All, IfOk, IfErr, false, length};
-ghost use Rattle.sheet.specs.Pattern.{ExactCrease};
+ghost use Rattle.sheet.specs.Pattern.{ExactPattern};
 ghost use Rattle.chains.specs.Chains.{Ascends};
-ghost use Rattle.subdivide.specs.Subdivision.{Answer, CutOf};
+ghost use Rattle.ports.specs.Stops.{Answers};
+ghost use Rattle.subdivide.specs.Subdivision.{IsSubdivision};
 ghost use Rattle.subdivide.specs.Crossings.{BeginInOrder};
 ghost use Rattle.subdivide.specs.Gathered.{IsGathered};
 ghost use Rattle.subdivide.specs.Lines.{AreLinesOf, RefusesLines};
-ghost use Rattle.subdivide.specs.Refusals.{RefusesCut};
+ghost use Rattle.subdivide.specs.CutAnswers.{IsCutAnswer};
 
 use crate::chain::chain_of;
 use crate::edges::edges_of;
@@ -17,7 +18,7 @@ use crate::lines::lines_of;
 use crate::{CutBad, Edge};
 use pattern::Pattern;
 use plane::Point;
-use ports::Stop;
+use ports::{NoMemory, Stop};
 use std::alloc::Global;
 use std::marker::Model;
 
@@ -29,15 +30,18 @@ pub struct Subdivision {
 }
 
 impl Model for Subdivision {
-    ghost use Rattle.subdivide.specs.Subdivision.{ExactSubdivision};
+    ghost use Rattle.subdivide.specs.Subdivision.{ExactSubdivision, IsSubdivision};
 
     ghost Value = { ExactSubdivision };
 
     ghost view = { λ s. record { vertices = s.vertices.items; edges = s.edges.items } };
+
+    ghost invariant = { λ s. IsSubdivision (record { vertices = s.vertices.items; edges = s.edges.items }) };
 }
 
 impl Subdivision {
     fn new(vertices: Vec<Point>, edges: Vec<Edge>) -> Subdivision
+        requires { IsSubdivision (record { vertices = vertices.items; edges = edges.items }) }
         ensures { result ≡ record { vertices = vertices.items; edges = edges.items } }
     {
         Subdivision { vertices, edges }
@@ -45,16 +49,31 @@ impl Subdivision {
 
     /// The corners, the ends of creases, and the points where creases and sides cross, each once, ascending by x and then by y.
     pub fn vertices(&self) -> &[Point]
-        ensures { result.now ≡ self.now.vertices }
+        ensures value { result.now ≡ self.now.vertices }
+        ensures subdivision { IsSubdivision self.now }
     {
         &self.vertices
     }
 
     /// The edges, ascending by `from` and then by `to`.
     pub fn edges(&self) -> &[Edge]
-        ensures { result.now ≡ self.now.edges }
+        ensures value { result.now ≡ self.now.edges }
+        ensures subdivision { IsSubdivision self.now }
     {
         &self.edges
+    }
+
+    /// An equal subdivision.
+    ///
+    /// # Errors
+    ///
+    /// `NoMemory` where memory for the lists runs out.
+    pub fn copy(&self, alloc: Global) -> Result<Subdivision, NoMemory>
+        ensures { IfOk result (λ cut. cut ≡ self.now) }
+    {
+        let vertices = Vec::from_slice(alloc, &self.vertices)?;
+        let edges = Vec::from_slice(alloc, &self.edges)?;
+        Ok(Subdivision::new(vertices, edges))
     }
 }
 
@@ -77,9 +96,8 @@ fn gather(alloc: Global, lines: &[Line]) -> Result<Gathered, Stop<CutBad>>
 
 /// The vertices and edges of a pattern that has these lines, the sides and then the creases.
 fn cut(alloc: Global, lines: &[Line]) -> Result<Subdivision, Stop<CutBad>>
-    requires { (creases : List ExactCrease) × AreLinesOf creases lines.now }
-    ensures ok { (creases : List ExactCrease) → AreLinesOf creases lines.now → IfOk result (λ s. CutOf creases (Answer.Cut s.vertices s.edges)) }
-    ensures err { (creases : List ExactCrease) → AreLinesOf creases lines.now → IfErr result (λ e. RefusesCut creases e) }
+    requires { (pattern : ExactPattern) × AreLinesOf pattern lines.now }
+    ensures { (pattern : ExactPattern) → AreLinesOf pattern lines.now → Answers (IsCutAnswer pattern) result }
 {
     let mut gathered = gather(alloc, lines)?;
     gathered.close();
@@ -101,10 +119,11 @@ fn cut(alloc: Global, lines: &[Line]) -> Result<Subdivision, Stop<CutBad>>
 ///
 /// # Errors
 ///
-/// `CrossRange` where two creases have exactly one common point and no `Point` can hold it, with the least such pair; `TooManyVertices` where there is no such pair and more than 100,000 vertices; `NoMemory` where memory runs out.
+/// `CrossRange` where two creases have exactly one common point and no `Point` can hold it, with the
+/// least such pair; `TooManyVertices` where there is no such pair and more vertices than
+/// `VERTEX_LIMIT`; `NoMemory` where memory runs out.
 pub fn scratch(alloc: Global, pattern: &Pattern) -> Result<Subdivision, Stop<CutBad>>
-    ensures ok { IfOk result (λ s. CutOf pattern.now (Answer.Cut s.vertices s.edges)) }
-    ensures err { IfErr result (λ e. RefusesCut pattern.now e) }
+    ensures { Answers (IsCutAnswer pattern.now) result }
 {
     let lines = lines_of(alloc, pattern)?;
     cut(alloc, &lines)

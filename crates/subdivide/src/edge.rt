@@ -19,11 +19,14 @@ pub struct Edge {
     pub kind: EdgeKind,
 }
 
+/// As many vertices may a subdivision have.
+pub const VERTEX_LIMIT: usize = 100_000;
+
 /// Why a pattern is not cut.
 #[derive(Clone, Copy, Debug, PartialEq, Eq)]
 pub enum CutBad {
     /// Two creases, the first before the second, have exactly one common point, and no `Point` can hold it. Of all such pairs it is the least, by the first crease and then by the second.
     CrossRange { first: Seg, second: Seg },
-    /// There is no such pair, and there are more than 100,000 vertices.
+    /// There is no such pair, and there are more vertices than `VERTEX_LIMIT`.
     TooManyVertices,
 }

@@ -3,7 +3,7 @@
 ghost use Rattle.std.specs.Prelude.{◌≡◌, ◌≤◌, ◌⊎◌, All, AllPairs, Contains, IfOk, OnOk, length};
 ghost use Rattle.exact.specs.Plane.{ExactPoint};
 ghost use Rattle.chains.specs.Chains.{Ascends};
-ghost use Rattle.subdivide.specs.Subdivision.{EdgePlaces};
+ghost use Rattle.subdivide.specs.Subdivision.{EdgePlaces, vertex_limit};
 ghost use Rattle.subdivide.specs.Chain.{KindedBefore};
 ghost use Rattle.plane.specs.Order.{point_cmp};
 ghost use Rattle.subdivide.specs.Steps.{AreStepsOf, IsStepOf, HoldsSteps};
@@ -22,7 +22,7 @@ fn add_steps(
     edges: &mut Vec<Edge>,
 ) -> Result<(), AllocError>
     requires ascends { Ascends point_cmp vertices.now }
-    requires few { length vertices.now ≤ 100000 }
+    requires few { length vertices.now ≤ vertex_limit }
     requires contains { All (Contains vertices.now) chain.now }
     ensures keeps { (e : EdgePlaces) → Contains edges.old.items e → Contains edges.new.items e }
     ensures each { (e : EdgePlaces) → Contains edges.new.items e → Contains edges.old.items e ⊎ IsStepOf vertices.now chain.now (length chain.now) kind e }
@@ -43,7 +43,7 @@ pub fn edges_of(
     chains: &[Chain],
 ) -> Result<Vec<Edge>, AllocError>
     requires ascends { Ascends point_cmp vertices.now }
-    requires few { length vertices.now ≤ 100000 }
+    requires few { length vertices.now ≤ vertex_limit }
     requires contains { All (λ c. All (Contains vertices.now) c.points.items) chains.now }
     ensures ordered { IfOk result (λ edges. AllPairs KindedBefore edges.items) }
     ensures holds { IfOk result (λ edges. HoldsSteps vertices.now chains.now (length chains.now) edges.items) }

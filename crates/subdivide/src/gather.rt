@@ -2,16 +2,13 @@
 
 ghost use Rattle.std.specs.Prelude.{◌≡◌, ℕ, ◌+◌, ◌≤◌, List, All, OnOk, IfOk, IfErr, Contains, false, true, length, slice_get, Some};
 ghost use Rattle.chains.specs.Chains.{Ascends};
-ghost use Rattle.subdivide.specs.Subdivision.{Line as ALine};
+ghost use Rattle.subdivide.specs.Subdivision.{Line as ALine, vertex_limit};
 ghost use Rattle.subdivide.specs.Crossings.{IsChainAmong};
 
-use crate::EdgeKind;
+use crate::{EdgeKind, VERTEX_LIMIT};
 use chains::ascending;
 use plane::Point;
 use std::alloc::{AllocError, Global};
-
-/// A cut pattern has no more vertices.
-const VERTICES: usize = 100_000;
 
 /// As many points may stand in the list before copies are taken out.
 const POINTS: usize = 400_000;
@@ -73,7 +70,7 @@ impl Gathered {
     pub fn close(&mut self)
         ensures same { (lines : List ALine) (n : ℕ) → IsGathered lines n self.old → IsGathered lines n self.new }
         ensures ascends { self.new.too_many ≡ false → Ascends point_cmp self.new.points.items }
-        ensures few { self.new.too_many ≡ false → length self.new.points.items ≤ 100000 }
+        ensures few { self.new.too_many ≡ false → length self.new.points.items ≤ vertex_limit }
     {
         if self.too_many {
             return;
@@ -86,9 +83,9 @@ impl Gathered {
         requires { self.old.too_many ≡ false }
         ensures same { (lines : List ALine) (n : ℕ) → IsGathered lines n self.old → IsGathered lines n self.new }
         ensures ascends { Ascends point_cmp self.new.points.items }
-        ensures few { self.new.too_many ≡ false → length self.new.points.items ≤ 100000 }
+        ensures few { self.new.too_many ≡ false → length self.new.points.items ≤ vertex_limit }
     {
         ascending(&mut self.points);
-        self.too_many = self.points.len() > VERTICES;
+        self.too_many = self.points.len() > VERTEX_LIMIT;
     }
 }

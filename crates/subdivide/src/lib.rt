@@ -9,10 +9,17 @@ mod gather;
 mod laws;
 mod line;
 mod lines;
+mod live;
+mod plan;
+mod stars;
 
 pub use cut::{Subdivision, scratch};
-pub use edge::{CutBad, Edge, EdgeKind};
-pub use laws::{chains_give_edges, chains_give_vertices, cut_is_one, patterns_give_lines};
+pub use edge::{CutBad, Edge, EdgeKind, VERTEX_LIMIT};
+pub use laws::{
+    chains_give_edges, chains_give_vertices, cut_is_one, patterns_give_lines, star_is_one,
+};
+pub use live::Live;
+pub use plan::Plan;
 
 #[cfg(test)]
 mod tests;

@@ -26,7 +26,7 @@ pub fn lines_of(alloc: Global, pattern: &Pattern) -> Result<Vec<Line>, AllocErro
     ensures lines { IfOk result (λ ls. ls.items ≡ lines pattern.now) }
     ensures pattern { IsPattern pattern.now }
 {
-    let sides = sheet_sides();
+    let sides = sheet_sides(&pattern.sheet());
     let borders = sides.iter().map(|side| Line::new(*side, EdgeKind::B));
     let creases = pattern.creases();
     let inner = creases.map(|crease| Line::new(crease.seg, kind_of(crease.colour)));

@@ -25,6 +25,24 @@ fn blank_sheet(rt: HostRuntime) -> Result<(), Fail> {
     Ok(())
 }
 
+/// On a sheet of 2 by 1 the line where a square would end is a crease, not a side.
+#[test]
+fn crease_inside_a_larger_sheet(rt: HostRuntime) -> Result<(), Fail> {
+    let cut = cut_of(rt.alloc(), b"q2 2 2 1\nM 1,0 1,1\n")?;
+    let edges = [
+        edge(0, 1, B),
+        edge(0, 2, B),
+        edge(1, 3, B),
+        edge(2, 3, M),
+        edge(2, 4, B),
+        edge(3, 5, B),
+        edge(4, 5, B),
+    ];
+    assert_eq!(rt; cut.vertices().len(), 6);
+    assert_eq!(rt; cut.edges(), edges.as_slice());
+    Ok(())
+}
+
 /// A crease from corner to corner adds no vertex.
 #[test]
 fn diagonal(rt: HostRuntime) -> Result<(), Fail> {

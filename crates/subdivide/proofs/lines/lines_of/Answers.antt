@@ -18,6 +18,6 @@ pub returns-clause-lines : goal.returns-clause-lines
 unfolding of_side of_crease
 returns-clause-lines c = items_from_collect c.collect.result c.collect.ensures.ran
     (YieldsList-from_chain
-    (YieldsList-at c.chain.ensures.first (YieldsList-from_map _ of_side (YieldsList-at c.map-borders.ensures.source (YieldsList-from_slice sides cc)) c.map-borders.ensures.closure (λ x r q k. search rules)))
-    (YieldsList-at c.chain.ensures.second (YieldsList-from_map _ of_crease (YieldsList-at c.map-inner.ensures.source (YieldsList-from_first (λ x. x) (λ s. s) c.args.pattern.now c.creases-creases.ensures.rest)) c.map-inner.ensures.closure (λ x r q k. search rules)))
+    (YieldsList-at c.chain.ensures.first (YieldsList-from_map _ of_side (YieldsList-at c.map-borders.ensures.source (YieldsList-from_slice (sides c.args.pattern.now.sheet) cc)) c.map-borders.ensures.closure (λ x r q k. search rules)))
+    (YieldsList-at c.chain.ensures.second (YieldsList-from_map _ of_crease (YieldsList-at c.map-inner.ensures.source (YieldsList-from_first (λ x. x) (λ s. s) c.args.pattern.now.creases c.creases-creases.ensures.rest)) c.map-inner.ensures.closure (λ x r q k. search rules)))
     c.chain.ensures.first_done c.chain.ensures.second_done)
