@@ -5,7 +5,8 @@ use Rattle.std.proofs.lemmas.List.{take_more, take_all}
 use Rattle.std.proofs.lemmas.List.Elements.{Contains-append_left, Contains-append_right, Contains-push_cases}
 use Rattle.exact.specs.Plane.{ExactPoint, ExactSegment}
 use Rattle.sheet.specs.Sheet.{sides}
-use Rattle.sheet.specs.Pattern.{ExactCrease}
+use Rattle.sheet.specs.Pattern.{ExactCrease, ExactPattern}
+use Rattle.edits.specs.Drafts.{with_creases}
 use Rattle.edits.specs.Rays.{IsSideOrCrease}
 use Rattle.edits.specs.Sights.{Sees, AreBoth}
 use Rattle.edits.specs.declared.sight.Sight.{Sight}
@@ -29,23 +30,23 @@ pub see_all : (start : ExactPoint) (k : ℕ) (xs : List ExactSegment) (i : ℕ) 
 see_all start k xs i x n h = subst (λ (ys : List ExactSegment). Sees start k (Contains ys) x) (take_all i xs n) h
 
 -- no crease yet
-pub see_sides : (start : ExactPoint) (k : ℕ) (x : Sight) → Sees start k (Contains sides) x → Sees start k (IsSideOrCrease []) x
-see_sides start k x h = see_as start k (Contains sides) (IsSideOrCrease []) x (λ s c. inl c) (λ s o. elim o [ inl c ↦ c | inr n ↦ absurd (none n.1) ]) h
+pub see_sides : (pattern : ExactPattern) (start : ExactPoint) (k : ℕ) (x : Sight) → Sees start k (Contains (sides pattern.sheet)) x → Sees start k (IsSideOrCrease (with_creases pattern [])) x
+see_sides pattern start k x h = see_as start k (Contains (sides pattern.sheet)) (IsSideOrCrease (with_creases pattern [])) x (λ s c. inl c) (λ s o. elim o [ inl c ↦ c | inr n ↦ absurd (none n.1) ]) h
   where
     none : {f : ExactCrease} → Contains [] f → ⊥
     none c = omega (arith, c.1)
 
 -- one more crease
-pub see_crease : (start : ExactPoint) (k : ℕ) (creases : List ExactCrease) (f : ExactCrease) (x y z : Sight) → k < 16 → Sees start k (IsSideOrCrease creases) x → Sees start k (IsIt f.seg) y → AreBoth k x y z → Sees start k (IsSideOrCrease (creases ++ f ∷ [])) z
-see_crease start k creases f x y z small h l b = see_as start k (Or (IsSideOrCrease creases) (IsIt f.seg)) (IsSideOrCrease (creases ++ f ∷ [])) z into from
-    (both_see start k (IsSideOrCrease creases) (IsIt f.seg) x y z small h l b)
+pub see_crease : (pattern : ExactPattern) (start : ExactPoint) (k : ℕ) (creases : List ExactCrease) (f : ExactCrease) (x y z : Sight) → k < 16 → Sees start k (IsSideOrCrease (with_creases pattern creases)) x → Sees start k (IsIt f.seg) y → AreBoth k x y z → Sees start k (IsSideOrCrease (with_creases pattern (creases ++ f ∷ []))) z
+see_crease pattern start k creases f x y z small h l b = see_as start k (Or (IsSideOrCrease (with_creases pattern creases)) (IsIt f.seg)) (IsSideOrCrease (with_creases pattern (creases ++ f ∷ []))) z into from
+    (both_see start k (IsSideOrCrease (with_creases pattern creases)) (IsIt f.seg) x y z small h l b)
   where
-    into : (t : ExactSegment) → Or (IsSideOrCrease creases) (IsIt f.seg) t → IsSideOrCrease (creases ++ f ∷ []) t
+    into : (t : ExactSegment) → Or (IsSideOrCrease (with_creases pattern creases)) (IsIt f.seg) t → IsSideOrCrease (with_creases pattern (creases ++ f ∷ [])) t
     into t (inl (inl c)) = inl c
     into t (inl (inr g)) = inr (g.0, Contains-append_left creases (f ∷ []) g.0 g.1, g.2)
     into t (inr e) = inr (f, last creases f, sym e)
 
-    from : (t : ExactSegment) → IsSideOrCrease (creases ++ f ∷ []) t → Or (IsSideOrCrease creases) (IsIt f.seg) t
+    from : (t : ExactSegment) → IsSideOrCrease (with_creases pattern (creases ++ f ∷ [])) t → Or (IsSideOrCrease (with_creases pattern creases)) (IsIt f.seg) t
     from t (inl c) = inl (inl c)
     from t (inr g) = elim (Contains-push_cases creases f g.0 g.1) [
       | inl c ↦ inl (inr (g.0, c, g.2))

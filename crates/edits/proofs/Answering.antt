@@ -1,8 +1,10 @@
 -- Answers of calls that take memory, put together from those of the calls below.
 use Rattle.std.proofs.Common.{◌≡◌, inl, inr, subst, sym}
-use Rattle.std.specs.Prelude.{Result, Ok, Err, OnOk, IfErr}
+use Rattle.std.specs.Prelude.{List, Result, Ok, Err, OnOk, IfErr}
 use Rattle.ports.specs.declared.stop.Stop.{Stop}
 use Rattle.ports.specs.declared.stop.Stop.TheVariants as stop
+use Rattle.sheet.specs.Pattern.{ExactCrease}
+use Rattle.edits.specs.Drafts.{ExactDraft}
 use Rattle.edits.specs.Rules.{Unless, Then}
 use Rattle.edits.specs.Answers.{Refuses, Answers}
 use Rattle.edits.specs.declared.refusal.EditBad.{EditBad}
@@ -33,14 +35,14 @@ unless_err B bad Rest (Err stop.NoMemory) n h = tt
 unless_err B bad Rest (Err (stop.Why e)) n h = inr (n, h)
 
 -- what the first step gives goes on
-pub followed : {A B : Type 0} (First : Result A EditBad → Type 0) (Next : A → Result B EditBad → Type 0) (r : Result B (Stop EditBad)) (a : A) → First (Ok a) → Answers (Next a) r → Answers (Then First Next) r
+pub followed : {A : Type 0} (First : Result A EditBad → Type 0) (Next : A → Result (List ExactCrease) EditBad → Type 0) (r : Result ExactDraft (Stop EditBad)) (a : A) → First (Ok a) → Answers (Next a) r → Answers (Then First Next) r
 followed First Next (Ok b) a f h = (a, f, h)
 followed First Next (Err stop.NoMemory) a f h = tt
 followed First Next (Err (stop.Why e)) a f h = inr (a, f, h)
 
 -- the first step refuses, and its refusal is handed on
-pub refused : {A B : Type 0} (First : Result A EditBad → Type 0) (Next : A → Result B EditBad → Type 0) (r : Result B (Stop EditBad)) (x : Stop EditBad) (e : EditBad) → r ≡ Err x → x ≡ stop.Why e → First (Err e) → Answers (Then First Next) r
+pub refused : {A : Type 0} (First : Result A EditBad → Type 0) (Next : A → Result (List ExactCrease) EditBad → Type 0) (r : Result ExactDraft (Stop EditBad)) (x : Stop EditBad) (e : EditBad) → r ≡ Err x → x ≡ stop.Why e → First (Err e) → Answers (Then First Next) r
 refused First Next r x e is why h = subst (λ z. Answers (Then First Next) z) (sym is) (subst (λ y. Refuses (Then First Next) y) (sym why) (inl h))
 
-pub stopped : {A B : Type 0} (First : Result A EditBad → Type 0) (Next : A → Result B EditBad → Type 0) (r : Result B (Stop EditBad)) (x : Stop EditBad) → r ≡ Err x → Refuses First x → Answers (Then First Next) r
+pub stopped : {A : Type 0} (First : Result A EditBad → Type 0) (Next : A → Result (List ExactCrease) EditBad → Type 0) (r : Result ExactDraft (Stop EditBad)) (x : Stop EditBad) → r ≡ Err x → Refuses First x → Answers (Then First Next) r
 stopped First Next r x is h = subst (λ z. Answers (Then First Next) z) (sym is) (first_err First Next x h)

@@ -2,7 +2,7 @@
 use Rattle.std.proofs.Common.{◌≡◌, ℕ, List, Result, Err, refl, inl, inr, arith}
 use Rattle.exact.specs.Plane.{ExactPoint, ExactSegment}
 use Rattle.sheet.specs.Sheet.{InSheet}
-use Rattle.sheet.specs.Pattern.{ExactCrease}
+use Rattle.sheet.specs.Pattern.{ExactPattern}
 use Rattle.qroot2.specs.Dir.{IsAngle, IsMiddle, HasOddAngle}
 use Rattle.edits.specs.Extend.{Extension}
 use Rattle.edits.specs.Bisect.{HasRay, Bisector}
@@ -15,17 +15,17 @@ one_angle i j n m h l = omega (arith, h.some, h.small, h.leads, l.some, l.small,
 not_odd : (i j k : ℕ) → IsMiddle i j k → ¬ HasOddAngle i j
 not_odd i j k h o = (let e = one_angle i j h.0 o.0 h.1 o.1 in omega (arith, e, h.2, o.2))
 
-pub halves_outside : (creases : List ExactCrease) (start : ExactPoint) (i j : ℕ) → ¬ InSheet start → Bisector creases start i j (Err bad.Outside)
-halves_outside creases start i j n = inl (n, refl)
+pub halves_outside : (pattern : ExactPattern) (start : ExactPoint) (i j : ℕ) → ¬ InSheet pattern.sheet start → Bisector pattern start i j (Err bad.Outside)
+halves_outside pattern start i j n = inl (n, refl)
 
-pub halves_no_first : (creases : List ExactCrease) (start : ExactPoint) (i j : ℕ) → InSheet start → ¬ HasRay creases start i → Bisector creases start i j (Err (bad.NoRay i))
-halves_no_first creases start i j h n = inr (λ m. m h, inl (n, refl))
+pub halves_no_first : (pattern : ExactPattern) (start : ExactPoint) (i j : ℕ) → InSheet pattern.sheet start → ¬ HasRay pattern start i → Bisector pattern start i j (Err (bad.NoRay i))
+halves_no_first pattern start i j h n = inr (λ m. m h, inl (n, refl))
 
-pub halves_no_second : (creases : List ExactCrease) (start : ExactPoint) (i j : ℕ) → InSheet start → HasRay creases start i → ¬ HasRay creases start j → Bisector creases start i j (Err (bad.NoRay j))
-halves_no_second creases start i j h f n = inr (λ m. m h, inr (λ m. m f, inl (n, refl)))
+pub halves_no_second : (pattern : ExactPattern) (start : ExactPoint) (i j : ℕ) → InSheet pattern.sheet start → HasRay pattern start i → ¬ HasRay pattern start j → Bisector pattern start i j (Err (bad.NoRay j))
+halves_no_second pattern start i j h f n = inr (λ m. m h, inr (λ m. m f, inl (n, refl)))
 
-pub halves_odd : (creases : List ExactCrease) (start : ExactPoint) (i j : ℕ) → InSheet start → HasRay creases start i → HasRay creases start j → HasOddAngle i j → Bisector creases start i j (Err bad.OddAngle)
-halves_odd creases start i j h f s o = inr (λ m. m h, inr (λ m. m f, inr (λ m. m s, inl (o, refl))))
+pub halves_odd : (pattern : ExactPattern) (start : ExactPoint) (i j : ℕ) → InSheet pattern.sheet start → HasRay pattern start i → HasRay pattern start j → HasOddAngle i j → Bisector pattern start i j (Err bad.OddAngle)
+halves_odd pattern start i j h f s o = inr (λ m. m h, inr (λ m. m f, inr (λ m. m s, inl (o, refl))))
 
-pub halves : (creases : List ExactCrease) (start : ExactPoint) (i j k : ℕ) (r : Result ExactSegment EditBad) → InSheet start → HasRay creases start i → HasRay creases start j → IsMiddle i j k → Extension creases start k r → Bisector creases start i j r
-halves creases start i j k r h f s m e = inr (λ n. n h, inr (λ n. n f, inr (λ n. n s, inr (not_odd i j k m, (k, m, e)))))
+pub halves : (pattern : ExactPattern) (start : ExactPoint) (i j k : ℕ) (r : Result ExactSegment EditBad) → InSheet pattern.sheet start → HasRay pattern start i → HasRay pattern start j → IsMiddle i j k → Extension pattern start k r → Bisector pattern start i j r
+halves pattern start i j k r h f s m e = inr (λ n. n h, inr (λ n. n f, inr (λ n. n s, inr (not_odd i j k m, (k, m, e)))))

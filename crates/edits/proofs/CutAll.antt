@@ -4,24 +4,25 @@ use Rattle.std.specs.Prelude.{◌↔◌, All, AllPairs, Contains}
 use Rattle.std.proofs.lemmas.List.{take_more, get_or-take, length-take}
 use Rattle.std.proofs.lemmas.List.Elements.{All-contains, Contains-get_or, Contains-append_left, Contains-push, Contains-push_cases}
 use Rattle.exact.specs.Plane.{ExactPoint, ExactSegment, SamePoint, IsSegment, Overlap, IsPointCanonical}
-use Rattle.sheet.specs.Pattern.{ExactCrease, IsKey}
-use Rattle.sheet.specs.declared.Colour.{Colour}
+use Rattle.sheet.specs.Pattern.{ExactCrease}
+use Rattle.sheet.specs.declared.colour.Colour.{Colour}
 use Rattle.geometry.specs.Meeting.{IsLater, IsEarlier}
 use Rattle.geometry.proofs.PointOrder.{same_itself, later_of, earlier_of}
-use Rattle.plane.specs.Segments.{HasCanonicalEnds}
-use Rattle.pattern.proofs.Members.{has_or_not}
-use Rattle.pattern.proofs.Overlaps.{overlap_itself}
+use Rattle.plane.specs.Segments.{HasCanonicalEnds, IsHeld}
+use Rattle.creases.proofs.callers.Members.{has_or_not}
+use Rattle.creases.proofs.callers.Overlaps.{overlap_itself}
 use Rattle.edits.specs.Parts.{Covers, IsPart, IsCommonPart}
 use Rattle.edits.specs.CreaseSet.{crease, SameCrease, AreCreases}
-use Rattle.edits.specs.Drafts.{IsDraft}
+use Rattle.creases.specs.Standing.{AreStanding}
 use Rattle.edits.specs.Drawn.{IsLeft, StandsAfter, Drawn}
 use Rattle.edits.specs.Erase.{IsBare}
 use Rattle.edits.specs.Recolour.{ComesFrom, StandsRecoloured}
 use Rattle.edits.specs.Pieces.{IsCut, AreCut, IsPiece, IsRecoloured, Replaced, AllReplaced}
 use Rattle.edits.proofs.Overlapping.{front_part, back_part, only_parts}
-use Rattle.edits.proofs.StillApart.{one_or_apart, overlap_wider, covers_itself}
+use Rattle.creases.proofs.callers.Standing.{one_or_apart}
+use Rattle.edits.proofs.StillApart.{overlap_wider, covers_itself}
 use Rattle.edits.proofs.StillPatterns.{common_part, common_one}
-use Rattle.edits.proofs.CutPieces.{segment, key_of}
+use Rattle.edits.proofs.CutPieces.{segment, held_of}
 use Rattle.edits.proofs.PaintPieces.{on_first}
 use Rattle.edits.proofs.Changing.{empty}
 
@@ -55,7 +56,7 @@ abbrev pub StaysOn : (ExactCrease → ExactCrease → Type 0) → List ExactCrea
 StaysOn Becomes old = (t f : ExactCrease) → Contains old t → Becomes t f → Covers t.seg f.seg × IsSegment f.seg
 
 -- what one crease becomes is no other
-other : (Becomes : ExactCrease → ExactCrease → Type 0) (old : List ExactCrease) (t f x : ExactCrease) → IsDraft old → StaysOn Becomes old → Contains old t → Contains old x → t ≢ x → Becomes t f → f ≢ x
+other : (Becomes : ExactCrease → ExactCrease → Type 0) (old : List ExactCrease) (t f x : ExactCrease) → AreStanding old → StaysOn Becomes old → Contains old t → Contains old x → t ≢ x → Becomes t f → f ≢ x
 other Becomes old t f x d on at there n b e = elim (one_or_apart old d.apart t x at there) [
   | inl same ↦ n same
   | inr apart ↦ (let k = on t f at b in
@@ -69,10 +70,10 @@ none_replaced Becomes old = λ f. (
   λ is. elim is [ inl a ↦ a.0 | inr t ↦ absurd (omega (arith, t.1.1)) ],
 )
 
-pub next_cut : (Becomes : ExactCrease → ExactCrease → Type 0) (old now xs : List ExactCrease) (s : ExactSegment) (i : ℕ) (x : ExactCrease) → AreCut old s xs → i < length xs → x ≡ get_or xs i x → AllReplaced Becomes old (take i xs) now → IsDraft now → IsCut now x s
+pub next_cut : (Becomes : ExactCrease → ExactCrease → Type 0) (old now xs : List ExactCrease) (s : ExactSegment) (i : ℕ) (x : ExactCrease) → AreCut old s xs → i < length xs → x ≡ get_or xs i x → AllReplaced Becomes old (take i xs) now → AreStanding now → IsCut now x s
 next_cut Becomes old now xs s i x h lt is r d =
     let at = (h.members x).0 (subst (Contains xs) (sym is) (Contains-get_or xs i x lt)) in
-    record { draft = d; there = (r x).1 (inl (at.0, not_taken xs i x h.once lt is)); key = h.key; overlap = at.1 }
+    record { standing = d; there = (r x).1 (inl (at.0, not_taken xs i x h.once lt is)); held = h.held; overlap = at.1 }
 
 pub next_replaced : (Becomes : ExactCrease → ExactCrease → Type 0) (old now new xs : List ExactCrease) (s : ExactSegment) (i : ℕ) (x : ExactCrease) → AreCut old s xs → StaysOn Becomes old → i < length xs → x ≡ get_or xs i x
     → AllReplaced Becomes old (take i xs) now → Replaced (Becomes x) now x new → AllReplaced Becomes old (take (i + 1) xs) new
@@ -87,7 +88,7 @@ next_replaced Becomes old now new xs s i x h on lt is r m = λ f. (
   λ so. elim so [
     | inl a ↦ (m f).1 (inl ((r f).1 (inl (a.0, λ d. a.1 (is_taken xs i x f lt is (inl d)))), λ e. a.1 (is_taken xs i x f lt is (inr (sym e)))))
     | inr t ↦ elim (next_or_taken xs i x t.0 lt is t.1) [
-      | inl d ↦ (m f).1 (inl ((r f).1 (inr (t.0, d, t.2)), other Becomes old t.0 f x h.draft on (there t.0 (taken_has xs i t.0 d)) (there x here) (unlike t.0 d) t.2))
+      | inl d ↦ (m f).1 (inl ((r f).1 (inr (t.0, d, t.2)), other Becomes old t.0 f x h.standing on (there t.0 (taken_has xs i t.0 d)) (there x here) (unlike t.0 d) t.2))
       | inr e ↦ (m f).1 (inr (subst (λ z. Becomes z f) (sym e) t.2))
     ]
   ],
@@ -107,9 +108,9 @@ next_replaced Becomes old now new xs s i x h on lt is r m = λ f. (
 pub pieces_on : (old : List ExactCrease) (s : ExactSegment) → StaysOn (IsPiece s) old
 pieces_on old s = λ t f at b. (b.part.part.within, b.part.part.segment)
 
-pub recoloured_on : (old : List ExactCrease) (s : ExactSegment) (c : Colour) → IsDraft old → StaysOn (IsRecoloured s c) old
+pub recoloured_on : (old : List ExactCrease) (s : ExactSegment) (c : Colour) → AreStanding old → StaysOn (IsRecoloured s c) old
 recoloured_on old s c d = λ t f at b. elim b [
-  | inl x ↦ subst (λ (z : ExactCrease). Covers t.seg z.seg × IsSegment z.seg) (sym x.1) (covers_itself t.seg, (key_of old t d at).segment)
+  | inl x ↦ subst (λ (z : ExactCrease). Covers t.seg z.seg × IsSegment z.seg) (sym x.1) (covers_itself t.seg, (held_of old t d at).segment)
   | inr x ↦ elim x.1 [ inl part ↦ (part.0.part.within, part.0.part.segment) | inr part ↦ (on_first f.seg t.seg s part.0, part.0.segment) ]
 ]
 
@@ -117,13 +118,13 @@ recoloured_on old s c d = λ t f at b. elim b [
 abbrev IsHeldAs : (ExactSegment → Type 0) → ExactSegment → Type 0
 IsHeldAs IsSuch u = (w : ExactSegment) × IsSuch w × HasCanonicalEnds w × SamePoint u.p w.p × SamePoint u.q w.q
 
-held_part : (u t s : ExactSegment) → IsKey t → IsKey s → Overlap t s → IsPart u t s → IsHeldAs (λ w. IsPart w t s) u
+held_part : (u t s : ExactSegment) → IsHeld t → IsHeld s → Overlap t s → IsPart u t s → IsHeldAs (λ w. IsPart w t s) u
 held_part u t s a b v p = elim (only_parts u t s a.segment b.segment v p) [
   | inl x ↦ (segment t.p s.p, front_part t s a.segment b.segment v x.0, (a.from, b.from), x.1, x.2)
   | inr x ↦ (segment s.q t.q, back_part t s a.segment b.segment v x.0, (b.to, a.to), x.1, x.2)
 ]
 
-held_common : (u t s : ExactSegment) → IsKey t → IsKey s → Overlap t s → IsCommonPart u t s → IsHeldAs (λ w. IsCommonPart w t s) u
+held_common : (u t s : ExactSegment) → IsHeld t → IsHeld s → Overlap t s → IsCommonPart u t s → IsHeldAs (λ w. IsCommonPart w t s) u
 held_common u t s a b v p =
     let same = common_one u (segment lo.0 hi.0) t s p own in
     (segment lo.0 hi.0, own, (from, to), same.0, same.1)
@@ -147,15 +148,15 @@ same_crease : (f : ExactCrease) → SameCrease f f
 same_crease f = record { from = same_itself f.seg.p; to = same_itself f.seg.q; colour = refl }
 
 -- a draft lists what stands, where its creases do
-pub draft_lists : (Stands : ExactCrease → Type 0) (creases : List ExactCrease) → IsDraft creases → ((f : ExactCrease) → Contains creases f → Stands f) → ((f : ExactCrease) → Stands f → (g : ExactCrease) × Contains creases g × SameCrease f g) → AreCreases Stands creases
+pub draft_lists : (Stands : ExactCrease → Type 0) (creases : List ExactCrease) → AreStanding creases → ((f : ExactCrease) → Contains creases f → Stands f) → ((f : ExactCrease) → Stands f → (g : ExactCrease) × Contains creases g × SameCrease f g) → AreCreases Stands creases
 draft_lists Stands creases d each all = record {
   ordered = d.ordered;
-  canonical = λ i x lt. (let k = d.keys i x lt in (k.from, k.to));
+  canonical = λ i x lt. (let k = d.held i x lt in (k.from, k.to));
   each = λ i x lt. each (get_or creases i x) (Contains-get_or creases i x lt);
   all = all;
 }
 
-pub erased_lists : (old new xs : List ExactCrease) (s : ExactSegment) → AreCut old s xs → AllReplaced (IsPiece s) old xs new → IsDraft new → AreCreases (IsLeft old s) new
+pub erased_lists : (old new xs : List ExactCrease) (s : ExactSegment) → AreCut old s xs → AllReplaced (IsPiece s) old xs new → AreStanding new → AreCreases (IsLeft old s) new
 erased_lists old new xs s h r d = draft_lists (IsLeft old s) new d each all
   where
     each : (f : ExactCrease) → Contains new f → IsLeft old s f
@@ -167,14 +168,14 @@ erased_lists old new xs s h r d = draft_lists (IsLeft old s) new d each all
     all : (f : ExactCrease) → IsLeft old s f → (g : ExactCrease) × Contains new g × SameCrease f g
     all f is = elim is [
       | inl a ↦ (f, (r f).1 (inl (a.0, λ c. a.1 ((h.members f).0 c).1)), same_crease f)
-      | inr t ↦ (let w = held_part f.seg t.0.seg s (key_of old t.0 h.draft t.1) h.key t.2 t.3 in (
+      | inr t ↦ (let w = held_part f.seg t.0.seg s (held_of old t.0 h.standing t.1) h.held t.2 t.3 in (
         crease w.0 f.colour,
         (r (crease w.0 f.colour)).1 (inr (t.0, (h.members t.0).1 (t.1, t.2), record { part = w.1; canonical = w.2; colour = t.4 })),
         record { from = w.3; to = w.4; colour = refl },
       ))
     ]
 
-pub recoloured_lists : (old new xs : List ExactCrease) (s : ExactSegment) (c : Colour) → AreCut old s xs → AllReplaced (IsRecoloured s c) old xs new → IsDraft new → AreCreases (StandsRecoloured old s c) new
+pub recoloured_lists : (old new xs : List ExactCrease) (s : ExactSegment) (c : Colour) → AreCut old s xs → AllReplaced (IsRecoloured s c) old xs new → AreStanding new → AreCreases (StandsRecoloured old s c) new
 recoloured_lists old new xs s c h r d = draft_lists (StandsRecoloured old s c) new d each all
   where
     each : (f : ExactCrease) → Contains new f → StandsRecoloured old s c f
@@ -200,12 +201,12 @@ recoloured_lists old new xs s c h r d = draft_lists (StandsRecoloured old s c) n
         | inr same ↦ (f, whole f a.0 same, same_crease f)
       ]
       | inr t ↦ elim t.4 [
-        | inl x ↦ (let w = held_part f.seg t.0.seg s (key_of old t.0 h.draft t.1) h.key t.2 x.0 in (
+        | inl x ↦ (let w = held_part f.seg t.0.seg s (held_of old t.0 h.standing t.1) h.held t.2 x.0 in (
           crease w.0 f.colour,
           came t.0 f (crease w.0 f.colour) t.1 t.2 t.3 (inl (w.1, x.1)) w.2,
           record { from = w.3; to = w.4; colour = refl },
         ))
-        | inr x ↦ (let w = held_common f.seg t.0.seg s (key_of old t.0 h.draft t.1) h.key t.2 x.0 in (
+        | inr x ↦ (let w = held_common f.seg t.0.seg s (held_of old t.0 h.standing t.1) h.held t.2 x.0 in (
           crease w.0 f.colour,
           came t.0 f (crease w.0 f.colour) t.1 t.2 t.3 (inr (w.1, x.1)) w.2,
           record { from = w.3; to = w.4; colour = refl },
@@ -217,7 +218,7 @@ recoloured_lists old new xs s c h r d = draft_lists (StandsRecoloured old s c) n
 pub left_apart : (old mid : List ExactCrease) (d : ExactCrease) (s : ExactSegment) → s ≡ d.seg → AreCreases (IsLeft old s) mid → All (λ f. ¬ Overlap f.seg d.seg) mid
 left_apart old mid d s e l = subst (λ z. All (λ (f : ExactCrease). ¬ Overlap f.seg z) mid) e (λ i x lt. elim (l.each i x lt) [ inl a ↦ a.1 | inr t ↦ t.3.part.outside ])
 
-pub drawn_lists : (old mid new : List ExactCrease) (d : ExactCrease) (s : ExactSegment) → s ≡ d.seg → AreCreases (IsLeft old s) mid → ((f : ExactCrease) → Contains new f ↔ ((f ≡ d) ⊎ Contains mid f)) → IsDraft new → Drawn old d new
+pub drawn_lists : (old mid new : List ExactCrease) (d : ExactCrease) (s : ExactSegment) → s ≡ d.seg → AreCreases (IsLeft old s) mid → ((f : ExactCrease) → Contains new f ↔ ((f ≡ d) ⊎ Contains mid f)) → AreStanding new → Drawn old d new
 drawn_lists old mid new d s e l m k = draft_lists (StandsAfter old d) new k each all
   where
     left : AreCreases (IsLeft old d.seg) mid
@@ -240,5 +241,5 @@ bare_where_empty old xs s m = (
 )
 
 -- a list in which those that overlap a key stand each once
-pub are_cut : (old xs list : List ExactCrease) (s : ExactSegment) → list ≡ xs → IsDraft old → IsKey s → ((f : ExactCrease) → Contains xs f ↔ (Contains old f × Overlap f.seg s)) → AllPairs (λ f g. f ≢ g) xs → AreCut old s list
-are_cut old xs list s e d k members once = subst (AreCut old s) (sym e) (record { draft = d; key = k; members = members; once = once })
+pub are_cut : (old xs list : List ExactCrease) (s : ExactSegment) → list ≡ xs → AreStanding old → IsHeld s → ((f : ExactCrease) → Contains xs f ↔ (Contains old f × Overlap f.seg s)) → AllPairs (λ f g. f ≢ g) xs → AreCut old s list
+are_cut old xs list s e d k members once = subst (AreCut old s) (sym e) (record { standing = d; held = k; members = members; once = once })

@@ -3,7 +3,7 @@ use Rattle.std.proofs.Common.{◌≡◌, ℕ, ◌<◌, refl, sym, subst, ◌∙�
 use Rattle.std.specs.Prelude.{Result, Ok, Err, IsOk}
 use Rattle.std.proofs.lemmas.Bool.{cases_order}
 use Rattle.exact.specs.Plane.{ExactPoint, ExactSegment, SamePoint, Before, DirOf, IsSegment, IsPointCanonical, vector}
-use Rattle.sheet.specs.Sheet.{InSheet, IsInside, OnBorder}
+use Rattle.sheet.specs.Sheet.{ExactSheet, IsSheet, InSheet, IsInside, OnBorder}
 use Rattle.sheet.specs.Pattern.{IsKey}
 use Rattle.geometry.proofs.Directions.{vector_ahead}
 use Rattle.geometry.proofs.Found.{on_along}
@@ -12,7 +12,7 @@ use Rattle.geometry.proofs.PointOrder.{ordered, before_not_itself}
 use Rattle.plane.specs.declared.segment.SegBad.{SegBad}
 use Rattle.plane.specs.declared.segment.SegBad.TheVariants as bad
 use Rattle.plane.specs.Segments.{HasEnds}
-use Rattle.plane.proofs.SheetSides.{on_one_side, end_moved, not_end}
+use Rattle.plane.proofs.callers.Sides.{on_one_side, end_moved, not_end}
 use Rattle.edits.specs.Ends.{Joins, AreJoined}
 use Rattle.edits.proofs.OneEar.{opposite_dir, dir_on, on_parallel}
 use Rattle.edits.proofs.RaySides.{dir_apart, opposite_half}
@@ -63,25 +63,25 @@ joined_dir p q h =
 pub ends_back : (s : ExactSegment) (p q : ExactPoint) → Joins s p q → Joins s q p
 ends_back s p q h = (h.0, elim h.1 [ inl e ↦ inr e | inr e ↦ inl e ])
 
-pub inside_in : (c : ExactPoint) → IsInside c → InSheet c
-inside_in c h = ((inr h.0, inr h.1), (inr h.2, inr h.3))
+pub inside_in : (sheet : ExactSheet) (c : ExactPoint) → IsInside sheet c → InSheet sheet c
+inside_in sheet c h = ((inr h.0, inr h.1), (inr h.2, inr h.3))
 
 -- no segment from a point strictly inside is on a side
-off_border : (s : ExactSegment) → IsSegment s → IsInside s.p ⊎ IsInside s.q → ¬ OnBorder s
-off_border s g h b = elim ((on_one_side s g).1 b).1 [
-  | inl x ↦ elim h [ inl i ↦ not_end s.p.x i.0 i.1 x.1 | inr i ↦ not_end s.q.x i.0 i.1 (end_moved s.p.x s.q.x x.0 x.1) ]
-  | inr y ↦ elim h [ inl i ↦ not_end s.p.y i.2 i.3 y.1 | inr i ↦ not_end s.q.y i.2 i.3 (end_moved s.p.y s.q.y y.0 y.1) ]
+off_border : (sheet : ExactSheet) → IsSheet sheet → (s : ExactSegment) → IsSegment s → IsInside sheet s.p ⊎ IsInside sheet s.q → ¬ OnBorder sheet s
+off_border sheet good s g h b = elim ((on_one_side sheet s good g).1 b).1 [
+  | inl x ↦ elim h [ inl i ↦ not_end sheet.w s.p.x i.0 i.1 x.1 | inr i ↦ not_end sheet.w s.q.x i.0 i.1 (end_moved sheet.w s.p.x s.q.x x.0 x.1) ]
+  | inr y ↦ elim h [ inl i ↦ not_end sheet.h s.p.y i.2 i.3 y.1 | inr i ↦ not_end sheet.h s.q.y i.2 i.3 (end_moved sheet.h s.p.y s.q.y y.0 y.1) ]
 ]
 
 -- such a segment is a key
-pub inner_key : (s : ExactSegment) (p c : ExactPoint) → Joins s p c → IsPointCanonical s.p → IsPointCanonical s.q → InSheet p → IsInside c → IsKey s
-inner_key s p c h a b in_p in_c = elim h.1 [
+pub inner_key : (sheet : ExactSheet) → IsSheet sheet → (s : ExactSegment) (p c : ExactPoint) → Joins s p c → IsPointCanonical s.p → IsPointCanonical s.q → InSheet sheet p → IsInside sheet c → IsKey sheet s
+inner_key sheet good s p c h a b in_p in_c = elim h.1 [
   | inl e ↦ (
-      let there : IsInside s.q = subst IsInside (sym e.1) in_c in
-      record { segment = h.0; from = a; to = b; from_in = subst InSheet (sym e.0) in_p; to_in = inside_in s.q there; inner = off_border s h.0 (inr there) })
+      let there : IsInside sheet s.q = subst (IsInside sheet) (sym e.1) in_c in
+      record { segment = h.0; from = a; to = b; from_in = subst (InSheet sheet) (sym e.0) in_p; to_in = inside_in sheet s.q there; inner = off_border sheet good s h.0 (inr there) })
   | inr e ↦ (
-      let there : IsInside s.p = subst IsInside (sym e.0) in_c in
-      record { segment = h.0; from = a; to = b; from_in = inside_in s.p there; to_in = subst InSheet (sym e.1) in_p; inner = off_border s h.0 (inl there) })
+      let there : IsInside sheet s.p = subst (IsInside sheet) (sym e.0) in_c in
+      record { segment = h.0; from = a; to = b; from_in = inside_in sheet s.p there; to_in = subst (InSheet sheet) (sym e.1) in_p; inner = off_border sheet good s h.0 (inl there) })
 ]
 
 -- where there is no segment, no direction joins the two points

@@ -10,7 +10,7 @@ use Rattle.plane.specs.Sides.{IsOnLine}
 use Rattle.plane.proofs.Imaged.{aside}
 use Rattle.plane.proofs.Crossed.{crossing, crossing_itself}
 use Rattle.edits.specs.Triangles.{IsIncentre, IsFootBetween}
-use Rattle.edits.specs.Foldable.{HasSides, HasOddTurn, IsFoldable}
+use Rattle.edits.specs.Foldable.{HasSides, HasOddTurn, IsMolecule}
 use Rattle.edits.proofs.OneEar.{dir_on, on_parallel}
 use Rattle.edits.proofs.HalfAngles.{axis, back}
 use Rattle.edits.proofs.Incentres.{IsEvenTriangle, angle_of, incentre_of, middle_axis, middle_small, axes_meet}
@@ -23,7 +23,7 @@ even_sum b e p q n = elim (cases_order ((b + e) % 2) 1) [
   | inr other ↦ elim other [ inl l ↦ omega (arith, l) | inr g ↦ absurd (omega (arith, g)) ]
 ]
 
-pub even_triangle : (p q r : ExactPoint) (i j m : ℕ) → IsFoldable p q r → HasSides p q r i j m → IsEvenTriangle p q r i j m
+pub even_triangle : (p q r : ExactPoint) (i j m : ℕ) → IsMolecule p q r → HasSides p q r i j m → IsEvenTriangle p q r i j m
 even_triangle p q r i j m f h =
     let told = molecule_told p q r i j m f.three h in
     let even : (j + i) % 2 ≡ 0 = even_sum j i h.j_small h.i_small (λ o. f.even (told.0 (inr (inr (inl o))))) in
@@ -41,10 +41,10 @@ even_triangle p q r i j m f h =
     }
 
 -- the angles of p and q are even
-pub even_p : (p q r : ExactPoint) (i j m : ℕ) → IsFoldable p q r → HasSides p q r i j m → ¬ HasOddTurn i m
+pub even_p : (p q r : ExactPoint) (i j m : ℕ) → IsMolecule p q r → HasSides p q r i j m → ¬ HasOddTurn i m
 even_p p q r i j m f h o = f.even ((molecule_told p q r i j m f.three h).0 (inr (inl o)))
 
-pub even_q : (p q r : ExactPoint) (i j m : ℕ) → IsFoldable p q r → HasSides p q r i j m → ¬ HasOddTurn j i
+pub even_q : (p q r : ExactPoint) (i j m : ℕ) → IsMolecule p q r → HasSides p q r i j m → ¬ HasOddTurn j i
 even_q p q r i j m f h o = f.even ((molecule_told p q r i j m f.three h).0 (inr (inr (inl o))))
 
 -- the bisectors of p and q
@@ -52,10 +52,10 @@ pub record AreBisectors (i j m k l : ℕ) : Type 0 where
   pub first : IsMiddle i (back m) k
   pub second : IsMiddle j (back i) l
 
-pub bisectors_meet : (p q r : ExactPoint) (i j m k l : ℕ) → IsFoldable p q r → HasSides p q r i j m → AreBisectors i j m k l → k % 8 ≢ l % 8
+pub bisectors_meet : (p q r : ExactPoint) (i j m k l : ℕ) → IsMolecule p q r → HasSides p q r i j m → AreBisectors i j m k l → k % 8 ≢ l % 8
 bisectors_meet p q r i j m k l f h b = axes_meet p q r i j m k l (even_triangle p q r i j m f h) b.first b.second
 
-pub meets_in : (p q r c : ExactPoint) (i j m k l : ℕ) → IsFoldable p q r → HasSides p q r i j m → AreBisectors i j m k l → IsOnLine p k c × IsOnLine q l c → IsIncentre p q r c
+pub meets_in : (p q r c : ExactPoint) (i j m k l : ℕ) → IsMolecule p q r → HasSides p q r i j m → AreBisectors i j m k l → IsOnLine p k c × IsOnLine q l c → IsIncentre p q r c
 meets_in p q r c i j m k l f h b on =
     let si = h.i_small in let sj = h.j_small in
     let a = middle_axis i (back m) k si (omega arith) b.first in
@@ -65,7 +65,7 @@ meets_in p q r c i j m k l f h b on =
     (on_parallel l (axis j (back i)) q c (middle_small j (back i) l b.second) (omega arith) (omega arith) ((turn_on l q c).0 on.1))
 
 -- an incentre that cannot be held
-pub incentre_missing : (p q r : ExactPoint) (i j m k l : ℕ) → IsFoldable p q r → HasSides p q r i j m → AreBisectors i j m k l → ((c : ExactPoint) → IsOnLine p k c → IsOnLine q l c → ¬ IsPointRepresentable c)
+pub incentre_missing : (p q r : ExactPoint) (i j m k l : ℕ) → IsMolecule p q r → HasSides p q r i j m → AreBisectors i j m k l → ((c : ExactPoint) → IsOnLine p k c → IsOnLine q l c → ¬ IsPointRepresentable c)
     → (c : ExactPoint) × IsIncentre p q r c × (¬ IsPointRepresentable c)
 incentre_missing p q r i j m k l f h b none =
     let c = crossing k l p q in

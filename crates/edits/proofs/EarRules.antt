@@ -2,9 +2,9 @@
 use Rattle.std.proofs.Common.{◌≡◌, ℕ, ◌<◌, List, refl, subst, ◌⊎◌, inl, inr, arith}
 use Rattle.std.specs.Prelude.{◌↔◌, Result, Err}
 use Rattle.exact.specs.Plane.{ExactPoint, SamePoint, DirOf, IsPointRepresentable, vector}
-use Rattle.sheet.specs.Sheet.{InSheet}
+use Rattle.sheet.specs.Sheet.{ExactSheet, InSheet}
 use Rattle.sheet.specs.Pattern.{ExactCrease}
-use Rattle.layers.specs.declared.mark.Mark.{Mark}
+use Rattle.sheet.specs.declared.mark.Mark.{Mark}
 use Rattle.geometry.proofs.Gap.{straight, above_num}
 use Rattle.geometry.proofs.Directions.{vector_whole}
 use Rattle.geometry.proofs.Found.{turn_on}
@@ -64,17 +64,17 @@ pub sides_joined : (p q r : ExactPoint) (i j m : ℕ) → HasSides p q r i j m �
 sides_joined p q r i j m h = (dir_joined p q i h.i_small h.pq, dir_joined q r j h.j_small h.qr, dir_joined r p m h.m_small h.rp)
 
 -- the refusals for the corners
-pub outside : (p q r : ExactPoint) → ¬ (InSheet p × InSheet q × InSheet r) → (mark : Mark) → EarOf mark p q r (Err bad.Outside)
-outside p q r n mark = inl (n, refl)
+pub outside : (sheet : ExactSheet) (p q r : ExactPoint) → ¬ (InSheet sheet p × InSheet sheet q × InSheet sheet r) → (mark : Mark) → EarOf sheet mark p q r (Err bad.Outside)
+outside sheet p q r n mark = inl (n, refl)
 
-pub not_three : (p q r : ExactPoint) → InSheet p × InSheet q × InSheet r → AreNotThree p q r → (mark : Mark) → EarOf mark p q r (Err bad.SamePoint)
-not_three p q r here b mark = inr (λ n. n here, inl (b, refl))
+pub not_three : (sheet : ExactSheet) (p q r : ExactPoint) → InSheet sheet p × InSheet sheet q × InSheet sheet r → AreNotThree p q r → (mark : Mark) → EarOf sheet mark p q r (Err bad.SamePoint)
+not_three sheet p q r here b mark = inr (λ n. n here, inl (b, refl))
 
-pub not_joined : (p q r : ExactPoint) → InSheet p × InSheet q × InSheet r → ¬ AreNotThree p q r → ¬ AreAllJoined p q r → (mark : Mark) → EarOf mark p q r (Err bad.NotDirection)
-not_joined p q r here three b mark = inr (λ n. n here, inr (three, inl (b, refl)))
+pub not_joined : (sheet : ExactSheet) (p q r : ExactPoint) → InSheet sheet p × InSheet sheet q × InSheet sheet r → ¬ AreNotThree p q r → ¬ AreAllJoined p q r → (mark : Mark) → EarOf sheet mark p q r (Err bad.NotDirection)
+not_joined sheet p q r here three b mark = inr (λ n. n here, inr (three, inl (b, refl)))
 
-pub no_molecule : (p q r : ExactPoint) → InSheet p × InSheet q × InSheet r → ¬ AreNotThree p q r → AreAllJoined p q r → IsNoMolecule p q r → (mark : Mark) → EarOf mark p q r (Err bad.NoMolecule)
-no_molecule p q r here three joined b mark = inr (λ n. n here, inr (three, inr (λ n. n joined, inl (b, refl))))
+pub no_molecule : (sheet : ExactSheet) (p q r : ExactPoint) → InSheet sheet p × InSheet sheet q × InSheet sheet r → ¬ AreNotThree p q r → AreAllJoined p q r → IsNoMolecule p q r → (mark : Mark) → EarOf sheet mark p q r (Err bad.NoMolecule)
+no_molecule sheet p q r here three joined b mark = inr (λ n. n here, inr (three, inr (λ n. n joined, inl (b, refl))))
 
 -- what is left where no rule for the corners is broken
 abbrev pub EarRest : Mark → ExactPoint → ExactPoint → ExactPoint → Result (List ExactCrease) EditBad → Type 0
@@ -83,5 +83,5 @@ EarRest m p q r =
     (Unless ((c f : ExactPoint) × IsIncentre p q r c × IsFootBetween p q c f × (¬ IsPointRepresentable f)) (bad.Range point.Foot)
     (Gives (IsEar m p q r)))
 
-pub rules_kept : (m : Mark) (p q r : ExactPoint) (answer : Result (List ExactCrease) EditBad) → IsFoldable p q r → EarRest m p q r answer → EarOf m p q r answer
-rules_kept m p q r answer h rest = inr (λ n. n h.in_sheet, inr (h.three, inr (λ n. n h.joined, inr (h.even, rest))))
+pub rules_kept : (sheet : ExactSheet) (m : Mark) (p q r : ExactPoint) (answer : Result (List ExactCrease) EditBad) → IsFoldable sheet p q r → EarRest m p q r answer → EarOf sheet m p q r answer
+rules_kept sheet m p q r answer h rest = inr (λ n. n h.in_sheet, inr (h.molecule.three, inr (λ n. n h.joined, inr (h.molecule.even, rest))))

@@ -2,8 +2,8 @@
 use Rattle.std.proofs.Common.{◌≡◌, ℕ, ◌+◌, ◌%◌, ◌<◌, ◌≤◌, List, Result, Ok, Err, refl, sym, subst, ◌⊎◌, inl, inr, arith}
 use Rattle.std.specs.Prelude.{IsOk}
 use Rattle.exact.specs.Plane.{ExactPoint, ExactSegment, SamePoint, Before, IsSegment, OnSeg, IsPointCanonical, vector}
-use Rattle.sheet.specs.Sheet.{InSheet}
-use Rattle.sheet.specs.Pattern.{ExactCrease, IsKey}
+use Rattle.sheet.specs.Sheet.{IsSheet, InSheet}
+use Rattle.sheet.specs.Pattern.{ExactPattern, IsKey}
 use Rattle.geometry.proofs.Lines.{On, on_back, on_trans}
 use Rattle.geometry.proofs.PointOrder.{before_not_back, before_not_itself, same_itself, same_back}
 use Rattle.geometry.proofs.Segments.{on_seg}
@@ -65,57 +65,57 @@ on_joined k s p q m small ray joins mid before = elim (half_of k) [
     back_after low high x = elim before [ inl e ↦ before_not_itself q (subst (λ z. Before z q) e x) | inr r ↦ before_not_back m q x ((ray_back m q k low high).0 r).1 ]
 
 -- the rules, one after another
-pub says_outside : (creases : List ExactCrease) (start : ExactPoint) (k : ℕ) → ¬ InSheet start → Extension creases start k (Err bad.Outside)
-says_outside creases start k n = inl (n, refl)
+pub says_outside : (pattern : ExactPattern) (start : ExactPoint) (k : ℕ) → ¬ InSheet pattern.sheet start → Extension pattern start k (Err bad.Outside)
+says_outside pattern start k n = inl (n, refl)
 
-pub says_border : (creases : List ExactCrease) (start : ExactPoint) (k : ℕ) → InSheet start → MissesInside start k → Extension creases start k (Err bad.AtBorder)
-says_border creases start k h m = inr (λ n. n h, inl (m, refl))
+pub says_border : (pattern : ExactPattern) (start : ExactPoint) (k : ℕ) → InSheet pattern.sheet start → MissesInside pattern.sheet start k → Extension pattern start k (Err bad.AtBorder)
+says_border pattern start k h m = inr (λ n. n h, inl (m, refl))
 
-pub says_covered : (creases : List ExactCrease) (start : ExactPoint) (k : ℕ) → k < 16 → InSheet start → LeadsInside start k → Sees start k (IsSideOrCrease creases) sight.Along → Extension creases start k (Err bad.Covered)
-says_covered creases start k small h l sees = inr (λ n. n h, inr (not_missed start k small l, inl (covered sees.1, refl)))
+pub says_covered : (pattern : ExactPattern) → IsSheet pattern.sheet → (start : ExactPoint) (k : ℕ) → k < 16 → InSheet pattern.sheet start → LeadsInside pattern.sheet start k → Sees start k (IsSideOrCrease pattern) sight.Along → Extension pattern start k (Err bad.Covered)
+says_covered pattern good start k small h l sees = inr (λ n. n h, inr (not_missed pattern.sheet start k small l, inl (covered sees.1, refl)))
   where
-    covered : IsSideOrCrease creases sees.0 → IsCovered creases start k
-    covered (inl side) = absurd (side_not_along start k sees.0 small l side sees.2)
+    covered : IsSideOrCrease pattern sees.0 → IsCovered pattern.creases start k
+    covered (inl side) = absurd (side_not_along pattern.sheet good start k sees.0 small l side sees.2)
     covered (inr c) = (sees.0, c, sees.2)
 
-not_covered : (creases : List ExactCrease) (start : ExactPoint) (k : ℕ) → ((s : ExactSegment) → IsSideOrCrease creases s → ¬ RunsAlong start k s) → ¬ IsCovered creases start k
-not_covered creases start k n c = n c.0 (inr c.1) c.2
+not_covered : (pattern : ExactPattern) (start : ExactPoint) (k : ℕ) → ((s : ExactSegment) → IsSideOrCrease pattern s → ¬ RunsAlong start k s) → ¬ IsCovered pattern.creases start k
+not_covered pattern start k n c = n c.0 (inr c.1) c.2
 
-pub says_range : (creases : List ExactCrease) (start : ExactPoint) (k : ℕ) → k < 16 → InSheet start → LeadsInside start k → Sees start k (IsSideOrCrease creases) sight.OutOfRange → Extension creases start k (Err (bad.Range point.End))
-says_range creases start k small h l sees = inr (λ n. n h, inr (not_missed start k small l, inr (not_covered creases start k sees.1, inl (sees.0, refl))))
+pub says_range : (pattern : ExactPattern) (start : ExactPoint) (k : ℕ) → k < 16 → InSheet pattern.sheet start → LeadsInside pattern.sheet start k → Sees start k (IsSideOrCrease pattern) sight.OutOfRange → Extension pattern start k (Err (bad.Range point.End))
+says_range pattern start k small h l sees = inr (λ n. n h, inr (not_missed pattern.sheet start k small l, inr (not_covered pattern start k sees.1, inl (sees.0, refl))))
 
-pub says_first : (creases : List ExactCrease) (start v : ExactPoint) (k : ℕ) (s : ExactSegment) → k < 16 → InSheet start → LeadsInside start k → Sees start k (IsSideOrCrease creases) (sight.First v) → Joins s start v → Extension creases start k (Ok s)
-says_first creases start v k s small h l sees joins = inr (
+pub says_first : (pattern : ExactPattern) (start v : ExactPoint) (k : ℕ) (s : ExactSegment) → k < 16 → InSheet pattern.sheet start → LeadsInside pattern.sheet start k → Sees start k (IsSideOrCrease pattern) (sight.First v) → Joins s start v → Extension pattern start k (Ok s)
+says_first pattern start v k s small h l sees joins = inr (
   λ n. n h,
   inr (
-    not_missed start k small l,
+    not_missed pattern.sheet start k small l,
     inr (
-      not_covered creases start k (first_not_along (IsSideOrCrease creases) start v k small sees.1),
+      not_covered pattern start k (first_not_along (IsSideOrCrease pattern) start v k small sees.1),
       inr (λ m. sees.2 m.0 m.1 m.2, (v, record { ray = sees.1.ray; met = sees.1.met; first = sees.1.first }, sees.0, joins)),
     ),
   ),
 )
 
 -- a ray that leads inside meets a side
-pub meets_some : (creases : List ExactCrease) (start : ExactPoint) (k : ℕ) → k < 16 → LeadsInside start k → ¬ Sees start k (IsSideOrCrease creases) sight.Nothing
-meets_some creases start k small l sees = (let e = exit start k small l in sees e.0 e.1 (e.3.0, inl e.3.1, e.3.2))
+pub meets_some : (pattern : ExactPattern) → IsSheet pattern.sheet → (start : ExactPoint) (k : ℕ) → k < 16 → LeadsInside pattern.sheet start k → ¬ Sees start k (IsSideOrCrease pattern) sight.Nothing
+meets_some pattern good start k small l sees = (let e = exit pattern.sheet good start k small l in sees e.0 e.1 (e.3.0, inl e.3.1, e.3.2))
 
 -- The segment may be a key of a pattern.
-pub first_key : (creases : List ExactCrease) (start v : ExactPoint) (k : ℕ) (s : ExactSegment) → k < 16 → InSheet start → LeadsInside start k → IsFirstOf (IsSideOrCrease creases) start k v → Joins s start v → IsPointCanonical s.p → IsPointCanonical s.q → IsKey s
-first_key creases start v k s small h l f joins held_p held_q = record {
+pub first_key : (pattern : ExactPattern) → IsSheet pattern.sheet → (start v : ExactPoint) (k : ℕ) (s : ExactSegment) → k < 16 → InSheet pattern.sheet start → LeadsInside pattern.sheet start k → IsFirstOf (IsSideOrCrease pattern) start k v → Joins s start v → IsPointCanonical s.p → IsPointCanonical s.q → IsKey pattern.sheet s
+first_key pattern good start v k s small h l f joins held_p held_q = record {
   segment = joins.0;
   from = held_p;
   to = held_q;
-  from_in = elim joins.1 [ inl e ↦ subst InSheet (sym e.0) h | inr e ↦ subst InSheet (sym e.0) end_in ];
-  to_in = elim joins.1 [ inl e ↦ subst InSheet (sym e.1) end_in | inr e ↦ subst InSheet (sym e.1) h ];
-  inner = λ b. (let m = inside_near start v k small l f.ray in inside_on_none m.0 m.3 (b.0, b.1, b.2 m.0 (on_joined k s start v m.0 small f.ray joins m.1 m.2)));
+  from_in = elim joins.1 [ inl e ↦ subst (InSheet pattern.sheet) (sym e.0) h | inr e ↦ subst (InSheet pattern.sheet) (sym e.0) end_in ];
+  to_in = elim joins.1 [ inl e ↦ subst (InSheet pattern.sheet) (sym e.1) end_in | inr e ↦ subst (InSheet pattern.sheet) (sym e.1) h ];
+  inner = λ b. (let m = inside_near pattern.sheet start v k small l f.ray in inside_on_none pattern.sheet good m.0 m.3 (b.0, b.1, b.2 m.0 (on_joined k s start v m.0 small f.ray joins m.1 m.2)));
 }
   where
-    end_in : InSheet v
-    end_in = (let e = exit start k small l in elim (ray_ordered start v e.0 k f.ray e.1) [
-      | inl r ↦ in_before start v e.0 k l f.ray (inr r) e.2
+    end_in : InSheet pattern.sheet v
+    end_in = (let e = exit pattern.sheet good start k small l in elim (ray_ordered start v e.0 k f.ray e.1) [
+      | inl r ↦ in_before pattern.sheet start v e.0 k l f.ray (inr r) e.2
       | inr o ↦ elim o [
-        | inl q ↦ in_moved e.0 v (same_back v e.0 q) (in_before start e.0 e.0 k l e.1 (inl refl) e.2)
+        | inl q ↦ in_moved pattern.sheet e.0 v (same_back v e.0 q) (in_before pattern.sheet start e.0 e.0 k l e.1 (inl refl) e.2)
         | inr r ↦ absurd (f.first e.0 e.1 r (e.3.0, inl e.3.1, e.3.2))
       ]
     ])

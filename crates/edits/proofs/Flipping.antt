@@ -1,24 +1,23 @@
--- A pattern with its mountains and valleys exchanged is a pattern.
-use Rattle.std.proofs.Common.{◌≡◌, ◌∙◌, ℕ, ◌<◌, ◌≤◌, List, [], ◌∷◌, ◌++◌, length, get_or, sym, ap, subst, arith}
-use Rattle.std.specs.Prelude.{All, AllPairs}
-use Rattle.std.proofs.lemmas.List.{get_or-map, length-map}
+-- A pattern with its mountains and valleys exchanged, one crease after another.
+use Rattle.std.proofs.Common.{◌≡◌, ◌≢◌, ◌∙◌, ℕ, ◌<◌, ◌≤◌, List, [], ◌∷◌, ◌++◌, length, get_or, refl, sym, ap, subst, ◌⊎◌, inl, inr, arith}
+use Rattle.std.specs.Prelude.{◌↔◌, All, AllPairs, Contains}
+use Rattle.std.proofs.lemmas.List.{append-nil, get_or-map, get_or_default, length-map, map-append}
+use Rattle.std.proofs.lemmas.List.Elements.{Contains-append_left, Contains-append_right, Contains-push, Contains-push_cases}
 use Rattle.exact.specs.Plane.{ExactSegment, Overlap, SegmentBefore}
-use Rattle.sheet.specs.Pattern.{ExactCrease, IsKey, IsPattern}
-use Rattle.sheet.specs.declared.Colour.{Colour}
-use Rattle.pattern.proofs.Fronts.{taken_pattern, moved}
-use Rattle.edits.specs.CreaseSet.{crease}
-use Rattle.edits.specs.Drafts.{IsDraft}
-use Rattle.edits.specs.Flip.{exchanged, flipped}
-
-abbrev flip : ExactCrease → ExactCrease
-flip f = crease f.seg (exchanged f.colour)
+use Rattle.sheet.specs.Pattern.{ExactCrease, ExactPattern, IsKey, IsPattern, crease_limit}
+use Rattle.creases.specs.Creases.{Ascends}
+use Rattle.pattern.proofs.Fronts.{taken_pattern}
+use Rattle.creases.proofs.callers.Members.{before_last, first_before, first_has, later_ascend, later_has, first_or_later, same_list, segment_not_itself}
+use Rattle.edits.specs.Drafts.{with_creases}
+use Rattle.creases.specs.Standing.{AreStanding}
+use Rattle.edits.specs.Flip.{exchanged_crease, flipped}
 
 within : (xs : List ExactCrease) (i : ℕ) → i < length (flipped xs) → i < length xs
-within xs i lt = subst (λ n. i < n) (length-map xs flip) lt
+within xs i lt = subst (λ n. i < n) (length-map xs exchanged_crease) lt
 
 -- each crease keeps its segment
 keeps : (xs : List ExactCrease) (i : ℕ) (d : ExactCrease) → i < length xs → (get_or xs i d).seg ≡ (get_or (flipped xs) i d).seg
-keeps xs i d lt = ap (λ (f : ExactCrease). f.seg) (sym (get_or-map flip xs i d d lt))
+keeps xs i d lt = ap (λ (f : ExactCrease). f.seg) (sym (get_or-map exchanged_crease xs i d d lt))
 
 all_kept : (P : ExactSegment → Type 0) (xs : List ExactCrease) → All (λ f. P f.seg) xs → All (λ f. P f.seg) (flipped xs)
 all_kept P xs h = λ i d lt. subst P (keeps xs i d (within xs i lt)) (h i d (within xs i lt))
@@ -27,24 +26,78 @@ pairs_kept : (R : ExactSegment → ExactSegment → Type 0) (xs : List ExactCrea
 pairs_kept R xs h = λ i j d lt to. (let in_xs = within xs j to in
     subst (λ s. R s (get_or (flipped xs) j d).seg) (keeps xs i d (omega (arith, lt, in_xs))) (subst (λ s. R (get_or xs i d).seg s) (keeps xs j d in_xs) (h i j d lt in_xs)))
 
-pub flipped_pattern : (xs : List ExactCrease) → IsPattern xs → IsPattern (flipped xs)
-flipped_pattern xs h = record {
-  keys = all_kept IsKey xs h.keys;
-  ordered = pairs_kept SegmentBefore xs h.ordered;
-  apart = pairs_kept (λ s t. ¬ Overlap s t) xs h.apart;
-  few = subst (λ n. n ≤ 20000) (sym (length-map xs flip)) h.few;
+pub flipped_pattern : (pattern : ExactPattern) → IsPattern pattern → IsPattern (with_creases pattern (flipped pattern.creases))
+flipped_pattern pattern h = record {
+  sheet = h.sheet;
+  keys = all_kept (IsKey pattern.sheet) pattern.creases h.keys;
+  ordered = pairs_kept SegmentBefore pattern.creases h.ordered;
+  apart = pairs_kept (λ s t. ¬ Overlap s t) pattern.creases h.apart;
+  few = subst (λ n. n ≤ crease_limit) (sym (length-map pattern.creases exchanged_crease)) h.few;
 }
 
-flipped_as : (x f : ExactCrease) (s : ExactSegment) (k c : Colour) → (let g : ExactCrease = record { seg = s; colour = k } in g) ≡ x → c ≡ exchanged k → (let g : ExactCrease = record { seg = s; colour = c } in g) ≡ f → f ≡ flip x
-flipped_as x f s k c is colour e = sym e ∙ (ap (λ j. crease s j) colour ∙ ap flip is)
+-- a flipped crease comes from one
+from : (xs : List ExactCrease) (f : ExactCrease) → Contains (flipped xs) f → (g : ExactCrease) × Contains xs g × (g.seg ≡ f.seg)
+from xs f c =
+    let lt = within xs c.0 c.1 in
+    (get_or xs c.0 f, (c.0, lt, get_or_default xs c.0 (get_or xs c.0 f) f lt), keeps xs c.0 f lt ∙ ap (λ (g : ExactCrease). g.seg) c.2)
 
--- what a loop has so far, with the next crease
-pub flipped_draft : (whole done rest next : List ExactCrease) (x f : ExactCrease) (s : ExactSegment) (k c : Colour) → IsPattern whole → done ++ flipped rest ≡ flipped whole → rest ≡ x ∷ next
-    → (let g : ExactCrease = record { seg = s; colour = k } in g) ≡ x → c ≡ exchanged k → (let g : ExactCrease = record { seg = s; colour = c } in g) ≡ f → IsDraft (done ++ f ∷ [])
-flipped_draft whole done rest next x f s k c h so_far more is colour e =
-    let p = taken_pattern (flipped whole) done (flipped rest) (flipped next) f (flipped_pattern whole h) so_far (ap flipped more ∙ ap (λ g. g ∷ flipped next) (sym (flipped_as x f s k c is colour e))) in
-    record { keys = p.keys; ordered = p.ordered; apart = p.apart }
+-- Those that were looked at are exchanged, and the rest is as it was.
+abbrev pub AreHalf : List ExactCrease → List ExactCrease → List ExactCrease → Type 0
+AreHalf done rest now = (f : ExactCrease) → Contains now f ↔ (Contains (flipped done) f ⊎ Contains rest f)
 
-pub flipped_more : (whole done rest next : List ExactCrease) (x f : ExactCrease) (s : ExactSegment) (k c : Colour) → done ++ flipped rest ≡ flipped whole → rest ≡ x ∷ next
-    → (let g : ExactCrease = record { seg = s; colour = k } in g) ≡ x → c ≡ exchanged k → (let g : ExactCrease = record { seg = s; colour = c } in g) ≡ f → (done ++ f ∷ []) ++ flipped next ≡ flipped whole
-flipped_more whole done rest next x f s k c so_far more is colour e = moved (flipped whole) done (flipped rest) (flipped next) f so_far (ap flipped more ∙ ap (λ g. g ∷ flipped next) (sym (flipped_as x f s k c is colour e)))
+pub half_start : (xs : List ExactCrease) → AreHalf [] xs xs
+half_start xs f = (λ c. inr c, λ c. elim c [ inl none ↦ absurd (omega (arith, none.1)) | inr d ↦ d ])
+
+pub half_there : (done rest next now : List ExactCrease) (x : ExactCrease) → AreHalf done rest now → rest ≡ x ∷ next → Contains now x
+half_there done rest next now x h e = (h x).1 (inr (subst (λ xs. Contains xs x) (sym e) (first_has x x next refl)))
+
+behind : (xs ys : List ExactCrease) → Ascends (xs ++ ys) → Ascends ys
+behind [] ys h = h
+behind (x ∷ xs) ys h = behind xs ys (later_ascend x (xs ++ ys) h)
+
+-- the next crease went out, and came back exchanged
+module _ (whole : ExactPattern) (done rest next now mid new : List ExactCrease) (x : ExactCrease) (p : IsPattern whole) (so_far : done ++ rest ≡ whole.creases) (more : rest ≡ x ∷ next) (half : AreHalf done rest now)
+    (taken : (f : ExactCrease) → Contains mid f ↔ (Contains now f × (f ≢ x))) (put : (f : ExactCrease) → Contains new f ↔ ((f ≡ exchanged_crease x) ⊎ Contains mid f)) where
+  front : Ascends (done ++ x ∷ [])
+  front = (taken_pattern whole done rest next x p so_far more).ordered
+
+  back : Ascends (x ∷ next)
+  back = behind done (x ∷ next) (subst (λ xs. Ascends (done ++ xs)) more (subst Ascends (sym so_far) p.ordered))
+
+  not_done : (f : ExactCrease) → Contains (flipped done) f → f ≢ x
+  not_done f c e = (let g = from done f c in segment_not_itself g.0.seg x.seg (g.2 ∙ ap (λ (h : ExactCrease). h.seg) e) (before_last done x g.0 front g.1))
+
+  not_next : (f : ExactCrease) → Contains next f → f ≢ x
+  not_next f c e = segment_not_itself x.seg f.seg (ap (λ (h : ExactCrease). h.seg) (sym e)) (first_before x f next back c)
+
+  added : flipped (done ++ x ∷ []) ≡ flipped done ++ exchanged_crease x ∷ []
+  added = map-append exchanged_crease done (x ∷ [])
+
+  pub half_next : AreHalf (done ++ x ∷ []) next new
+  half_next f = (
+    λ c. elim ((put f).0 c) [
+      | inl e ↦ inl (subst (λ xs. Contains xs f) (sym added) (subst (Contains (flipped done ++ exchanged_crease x ∷ [])) (sym e) (Contains-push (flipped done) (exchanged_crease x))))
+      | inr m ↦ (let k = (taken f).0 m in elim ((half f).0 k.0) [
+        | inl d ↦ inl (subst (λ xs. Contains xs f) (sym added) (Contains-append_left (flipped done) (exchanged_crease x ∷ []) f d))
+        | inr r ↦ elim (first_or_later x f next (subst (λ xs. Contains xs f) more r)) [ inl e ↦ absurd (k.1 (sym e)) | inr d ↦ inr d ]
+      ])
+    ],
+    λ c. elim c [
+      | inl d ↦ elim (Contains-push_cases (flipped done) (exchanged_crease x) f (subst (λ xs. Contains xs f) added d)) [
+        | inl k ↦ (put f).1 (inr ((taken f).1 ((half f).1 (inl k), not_done f k)))
+        | inr e ↦ (put f).1 (inl (sym e))
+      ]
+      | inr d ↦ (put f).1 (inr ((taken f).1 ((half f).1 (inr (subst (λ xs. Contains xs f) (sym more) (later_has x f next d))), not_next f d)))
+    ],
+  )
+
+-- all of them are exchanged
+pub half_end : (whole : ExactPattern) (done rest now : List ExactCrease) → IsPattern whole → AreStanding now → AreHalf done rest now → done ++ rest ≡ whole.creases → rest ≡ [] → now ≡ flipped whole.creases
+half_end whole done rest now p s half so_far none =
+    let all : done ≡ whole.creases = sym (append-nil done) ∙ ap (λ (xs : List ExactCrease). done ++ xs) (sym none) ∙ so_far in
+    same_list now (flipped whole.creases) s.ordered (flipped_pattern whole p).ordered
+    (λ f c. elim ((half f).0 c) [ inl d ↦ subst (λ xs. Contains (flipped xs) f) all d | inr r ↦ absurd (let n : Contains [] f = subst (λ xs. Contains xs f) none r in omega (arith, n.1)) ])
+    (λ f c. (half f).1 (inl (subst (λ xs. Contains (flipped xs) f) (sym all) c)))
+
+pub is_flipped : (old now : ExactPattern) (draft : List ExactCrease) → IsPattern old → draft ≡ flipped old.creases → now ≡ old → IsPattern (with_creases now draft)
+is_flipped old now draft p e same = subst (λ q. IsPattern (with_creases q draft)) (sym same) (subst (λ xs. IsPattern (with_creases old xs)) (sym e) (flipped_pattern old p))

@@ -1,7 +1,7 @@
 -- The foot of the incentre on the side from p to q is between p and q, so it is in the sheet.
 use Rattle.std.proofs.Common.{◌≡◌, ℕ, ◌<◌, sym, ap, subst, ◌∙◌, inl, inr, arith}
 use Rattle.exact.specs.Plane.{ExactPoint, vector}
-use Rattle.sheet.specs.Sheet.{InSheet, corner}
+use Rattle.sheet.specs.Sheet.{ExactSheet, InSheet, corner}
 use Rattle.geometry.specs.Root.{plus, times, minus, Above}
 use Rattle.geometry.specs.Gap.{cross, det}
 use Rattle.geometry.proofs.RootRing.{plus_zero}
@@ -57,12 +57,12 @@ from_foot p q f i h = elim (on_ray_or i f q h.small h.second) [
     w : ExactPoint
     w = vector (aside i)
 
-between_in : (p q f : ExactPoint) (i : ℕ) → IsBetween p q f i → InSheet p → InSheet q → InSheet f
-between_in p q f i h a b = (sheet_is f).1 (record {
-  low = between 0 (corner 0 0) ((sheet_is p).0 a).low ((sheet_is q).0 b).low;
-  right = between 4 (corner 1 0) ((sheet_is p).0 a).right ((sheet_is q).0 b).right;
-  high = between 8 (corner 1 1) ((sheet_is p).0 a).high ((sheet_is q).0 b).high;
-  left = between 12 (corner 0 1) ((sheet_is p).0 a).left ((sheet_is q).0 b).left;
+between_in : (sheet : ExactSheet) (p q f : ExactPoint) (i : ℕ) → IsBetween p q f i → InSheet sheet p → InSheet sheet q → InSheet sheet f
+between_in sheet p q f i h a b = (sheet_is sheet f).1 (record {
+  low = between 0 (corner sheet 0 0) ((sheet_is sheet p).0 a).low ((sheet_is sheet q).0 b).low;
+  right = between 4 (corner sheet 1 0) ((sheet_is sheet p).0 a).right ((sheet_is sheet q).0 b).right;
+  high = between 8 (corner sheet 1 1) ((sheet_is sheet p).0 a).high ((sheet_is sheet q).0 b).high;
+  left = between 12 (corner sheet 0 1) ((sheet_is sheet p).0 a).left ((sheet_is sheet q).0 b).left;
 })
   where
     between : (j : ℕ) (o : ExactPoint) → NotRight j o p → NotRight j o q → NotRight j o f
@@ -119,10 +119,10 @@ foot_round p q r c f i j m h at_p at_q on up = record {
     seen o = chain w o f c ∙ ap (plus (times (cross w o f) (weight c))) (in_right _ (weight o) up.on) ∙ plus_zero _
 
 -- the foot of the point where the bisectors of p and q meet
-pub foot_in : (p q r c f : ExactPoint) (i j m : ℕ) → IsEvenTriangle p q r i j m → On (vector (axis i (back m))) p c → On (vector (axis j (back i))) q c → On (vector i) p f → On (vector (aside i)) f c → InSheet p → InSheet q → InSheet f
-foot_in p q r c f i j m h at_p at_q on up a b = elim (oriented p q r i j m h) [
-  | inl o ↦ between_in p q f i (foot_round p q r c f i j m o at_p at_q on up) a b
-  | inr o ↦ between_in q p f (back i) (foot_round q p r c f (back i) (back m) (back j) o
+pub foot_in : (sheet : ExactSheet) (p q r c f : ExactPoint) (i j m : ℕ) → IsEvenTriangle p q r i j m → On (vector (axis i (back m))) p c → On (vector (axis j (back i))) q c → On (vector i) p f → On (vector (aside i)) f c → InSheet sheet p → InSheet sheet q → InSheet sheet f
+foot_in sheet p q r c f i j m h at_p at_q on up a b = elim (oriented p q r i j m h) [
+  | inl o ↦ between_in sheet p q f i (foot_round p q r c f i j m o at_p at_q on up) a b
+  | inr o ↦ between_in sheet q p f (back i) (foot_round q p r c f (back i) (back m) (back j) o
       (subst (λ z. On (vector z) q c) (axis_back i j h.j_small) at_q) (subst (λ z. On (vector z) p c) (axis_back m i h.i_small) at_p)
       (on_parallel i (back i) q f si (omega arith) (omega arith) (on_from (vector i) p q f (dir_on p q i h.pq) on))
       (on_parallel (aside i) (aside (back i)) f c (omega arith) (omega arith) (omega arith) up)) b a

@@ -4,13 +4,13 @@ use Rattle.std.specs.Prelude.{◌↔◌, Contains}
 use Rattle.std.proofs.lemmas.List.Elements.{All-contains, Contains-get_or, Contains-append_left, Contains-push, Contains-push_cases}
 use Rattle.std.proofs.lemmas.List.Quantifiers.{all_pairs_push}
 use Rattle.exact.specs.Plane.{SegmentBefore}
-use Rattle.sheet.specs.Pattern.{ExactCrease, IsPattern, IsKey}
+use Rattle.sheet.specs.Pattern.{ExactCrease, ExactPattern, IsPattern, IsKey}
 use Rattle.plane.specs.Segments.{HasCanonicalEnds}
 use Rattle.geometry.proofs.PointOrder.{same_itself}
-use Rattle.pattern.specs.Deltas.{Ascends}
-use Rattle.pattern.proofs.Members.{before_last}
+use Rattle.creases.specs.Creases.{Ascends}
+use Rattle.creases.proofs.callers.Members.{before_last}
 use Rattle.edits.specs.CreaseSet.{AreCreases}
-use Rattle.edits.proofs.StoredLists.{all_of}
+use Rattle.creases.proofs.callers.Members.{all_of}
 
 -- the list has those of the first creases that have the property
 pub record AreKept (P : ExactCrease → Type 0) (done kept : List ExactCrease) : Type 0 where
@@ -47,10 +47,10 @@ kept_passed P done kept f w n = record {
 }
 
 -- those of a pattern are a set of creases
-pub kept_creases : (P : ExactCrease → Type 0) (creases kept : List ExactCrease) → IsPattern creases → AreKept P creases kept → AreCreases (λ f. Contains creases f × P f) kept
-kept_creases P creases kept p w = record {
+pub kept_creases : (P : ExactCrease → Type 0) (pattern : ExactPattern) (kept : List ExactCrease) → IsPattern pattern → AreKept P pattern.creases kept → AreCreases (λ f. Contains pattern.creases f × P f) kept
+kept_creases P pattern kept p w = record {
   ordered = w.ascends;
-  canonical = all_of (λ (f : ExactCrease). HasCanonicalEnds f.seg) kept (λ f c. (let k : IsKey f.seg = All-contains (λ (g : ExactCrease). IsKey g.seg) creases f p.keys ((w.members f).0 c).0 in (k.from, k.to)));
-  each = all_of (λ f. Contains creases f × P f) kept (λ f c. (w.members f).0 c);
+  canonical = all_of (λ (f : ExactCrease). HasCanonicalEnds f.seg) kept (λ f c. (let k : IsKey pattern.sheet f.seg = All-contains (λ (g : ExactCrease). IsKey pattern.sheet g.seg) pattern.creases f p.keys ((w.members f).0 c).0 in (k.from, k.to)));
+  each = all_of (λ f. Contains pattern.creases f × P f) kept (λ f c. (w.members f).0 c);
   all = λ f h. (f, (w.members f).1 h, record { from = same_itself f.seg.p; to = same_itself f.seg.q; colour = refl });
 }

@@ -18,14 +18,6 @@ pub mod Each
 pub mod Changing
 pub mod Flipping
 pub mod Answering
-pub mod StoredLists
-pub mod PlaceKeys
-pub mod StoreChanges
-pub mod StoreEnds
-pub mod CreaseOrder
-pub mod Reaching
-pub mod Equalities
-pub mod ReachedLists
 pub mod CutPieces
 pub mod PaintPieces
 pub mod CutAll
@@ -40,6 +32,11 @@ pub mod EarCreases
 pub mod EarRules
 pub mod EarPoints
 pub mod EarFound
+pub mod OnSheet
+pub mod DraftLists
+pub mod Beside
+pub mod BesideSteps
+pub mod Gathered
 pub mod RunsTold
 pub mod RayTold
 pub mod RayOrder

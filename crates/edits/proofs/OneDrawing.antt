@@ -2,8 +2,9 @@
 use Rattle.std.proofs.Common.{◌≡◌, ℕ, ◌+◌, ◌/◌, ◌%◌, ◌<◌, List, [], ◌∷◌, sym, ap, subst, ◌∙◌, inl, inr, arith}
 use Rattle.std.specs.Prelude.{Result, Ok}
 use Rattle.exact.specs.Plane.{ExactPoint, ExactSegment, SamePoint, Before}
-use Rattle.sheet.specs.Pattern.{ExactCrease}
-use Rattle.sheet.specs.declared.Colour.{Colour}
+use Rattle.sheet.specs.Sheet.{ExactSheet}
+use Rattle.sheet.specs.Pattern.{ExactCrease, ExactPattern}
+use Rattle.sheet.specs.declared.colour.Colour.{Colour}
 use Rattle.geometry.proofs.PointOrder.{before_not_back, same_before, before_same}
 use Rattle.qroot2.specs.Dir.{IsMiddle}
 use Rattle.plane.proofs.Imaged.{image_only}
@@ -62,8 +63,8 @@ joins_one p q a b h k = elim h.1 [
     crossed : (a b : ExactSegment) → Before a.p a.q → Before b.p b.q → a.p ≡ b.q → a.q ≡ b.p → ⊥
     crossed a b x y e f = before_not_back b.p b.q y (subst (λ z. Before b.q z) f (subst (λ z. Before z a.q) e x))
 
-pub ends_one : (p q : ExactPoint) → HasOneAnswer (EndsOf p q)
-ends_one p q = unless_one _ _ _ (unless_one _ _ _ (unless_one _ _ _ (unless_one _ _ _ (gives_one (λ s. Joins s p q) (joins_one p q)))))
+pub ends_one : (sheet : ExactSheet) (p q : ExactPoint) → HasOneAnswer (EndsOf sheet p q)
+ends_one sheet p q = unless_one _ _ _ (unless_one _ _ _ (unless_one _ _ _ (unless_one _ _ _ (gives_one (λ s. Joins s p q) (joins_one p q)))))
 
 pub erased_one : (creases : List ExactCrease) (s : ExactSegment) → HasOneAnswer (Erased creases s)
 erased_one creases s = unless_one _ _ _ (set_one (IsLeft creases s))
@@ -72,31 +73,31 @@ pub recoloured_one : (creases : List ExactCrease) (s : ExactSegment) (c : Colour
 recoloured_one creases s c = unless_one _ _ _ (set_one (StandsRecoloured creases s c))
 
 -- the first point that a ray meets
-first_one : (creases : List ExactCrease) (start : ExactPoint) (k : ℕ) (d e : ExactPoint) → IsFirstMet creases start k d → IsFirstMet creases start k e → SamePoint d e
-first_one creases start k d e f g = elim (ray_ordered start d e k f.ray g.ray) [
+first_one : (pattern : ExactPattern) (start : ExactPoint) (k : ℕ) (d e : ExactPoint) → IsFirstMet pattern start k d → IsFirstMet pattern start k e → SamePoint d e
+first_one pattern start k d e f g = elim (ray_ordered start d e k f.ray g.ray) [
   | inl after ↦ absurd (g.first d f.ray after f.met)
   | inr other ↦ elim other [ inl same ↦ same | inr after ↦ absurd (f.first e g.ray after g.met) ]
 ]
 
-pub extension_is_one : (creases : List ExactCrease) (start : ExactPoint) (k : ℕ) (a b : ExactSegment) → IsExtension creases start k a → IsExtension creases start k b → a ≡ b
-extension_is_one creases start k a b h l =
-    let e : h.0 ≡ l.0 = point_unique h.0 l.0 h.2 l.2 (first_one creases start k h.0 l.0 h.1 l.1) in
+pub extension_is_one : (pattern : ExactPattern) (start : ExactPoint) (k : ℕ) (a b : ExactSegment) → IsExtension pattern start k a → IsExtension pattern start k b → a ≡ b
+extension_is_one pattern start k a b h l =
+    let e : h.0 ≡ l.0 = point_unique h.0 l.0 h.2 l.2 (first_one pattern start k h.0 l.0 h.1 l.1) in
     joins_one start l.0 a b (subst (λ z. Joins a start z) e h.3) l.3
 
-pub extension_one : (creases : List ExactCrease) (start : ExactPoint) (k : ℕ) → HasOneAnswer (Extension creases start k)
-extension_one creases start k = unless_one _ _ _ (unless_one _ _ _ (unless_one _ _ _ (unless_one _ _ _ (gives_one (IsExtension creases start k) (extension_is_one creases start k)))))
+pub extension_one : (pattern : ExactPattern) (start : ExactPoint) (k : ℕ) → HasOneAnswer (Extension pattern start k)
+extension_one pattern start k = unless_one _ _ _ (unless_one _ _ _ (unless_one _ _ _ (unless_one _ _ _ (gives_one (IsExtension pattern start k) (extension_is_one pattern start k)))))
 
 pub middle_one : (i j k m : ℕ) → IsMiddle i j k → IsMiddle i j m → k ≡ m
 middle_one i j k m h l =
     let n : h.0 ≡ l.0 = omega (arith, h.1.some, h.1.small, h.1.leads, l.1.some, l.1.small, l.1.leads) in
     h.3 ∙ ap (λ z. (i + z / 2) % 16) n ∙ sym l.3
 
-pub bisector_one : (creases : List ExactCrease) (start : ExactPoint) (i j : ℕ) → HasOneAnswer (Bisector creases start i j)
+pub bisector_one : (pattern : ExactPattern) (start : ExactPoint) (i j : ℕ) → HasOneAnswer (Bisector pattern start i j)
 unfolding HasOneAnswer
-bisector_one creases start i j = unless_one _ _ _ (unless_one _ _ _ (unless_one _ _ _ (unless_one _ _ _ halved)))
+bisector_one pattern start i j = unless_one _ _ _ (unless_one _ _ _ (unless_one _ _ _ (unless_one _ _ _ halved)))
   where
-    halved : HasOneAnswer (λ answer. (k : ℕ) × IsMiddle i j k × Extension creases start k answer)
-    halved x y u v = extension_one creases start v.0 x y (subst (λ z. Extension creases start z x) (middle_one i j u.0 v.0 u.1 v.1) u.2) v.2
+    halved : HasOneAnswer (λ answer. (k : ℕ) × IsMiddle i j k × Extension pattern start k answer)
+    halved x y u v = extension_one pattern start v.0 x y (subst (λ z. Extension pattern start z x) (middle_one i j u.0 v.0 u.1 v.1) u.2) v.2
 
 -- the image of a crease
 pub image_is_one : (start : ExactPoint) (k : ℕ) → k < 16 → (f a b : ExactCrease) → IsCreaseImage start k f a → IsCreaseImage start k f b → a ≡ b
@@ -121,16 +122,16 @@ image_is_one start k small f a b h l = together (elim h.image.1 [
         let colour = h.colour ∙ sym l.colour in
         λ i. record { seg = record { p = from i; q = to i }; colour = colour i }
 
-pub image_one : (start : ExactPoint) (k : ℕ) → k < 16 → (f : ExactCrease) → HasOneAnswer (ImageOf start k f)
-image_one start k small f = unless_one _ _ _ (unless_one _ _ _ (unless_one _ _ _ (gives_one (IsCreaseImage start k f) (image_is_one start k small f))))
+pub image_one : (sheet : ExactSheet) (start : ExactPoint) (k : ℕ) → k < 16 → (f : ExactCrease) → HasOneAnswer (ImageOf sheet start k f)
+image_one sheet start k small f = unless_one _ _ _ (unless_one _ _ _ (unless_one _ _ _ (gives_one (IsCreaseImage start k f) (image_is_one start k small f))))
 
-pub images_one : (creases : List ExactCrease) (start : ExactPoint) (k : ℕ) → k < 16 → HasOneAnswer (MirrorImages creases start k)
-images_one creases start k small = unless_one _ _ _ (
-    then_one (Gives (AreConcerned creases start k)) (ImagesOf start k) (gives_one (AreConcerned creases start k) (creases_are_one _)) (λ concerned _.
-    unless_one (concerned ≡ []) bad.NoCrease _ (for_each_one (ImageOf start k) (image_one start k small) concerned)))
+pub images_one : (pattern : ExactPattern) (start : ExactPoint) (k : ℕ) → k < 16 → HasOneAnswer (MirrorImages pattern start k)
+images_one pattern start k small = unless_one _ _ _ (
+    then_one (Gives (AreConcerned pattern.creases start k)) (ImagesOf pattern.sheet start k) (gives_one (AreConcerned pattern.creases start k) (creases_are_one _)) (λ concerned _.
+    unless_one (concerned ≡ []) bad.NoCrease _ (for_each_one (ImageOf pattern.sheet start k) (image_one pattern.sheet start k small) concerned)))
 
-line_one : (f : ExactCrease) → HasOneAnswer (LineOf f)
-line_one f = unless_one _ _ _ (unless_one _ _ _ (equal_one f))
+line_one : (sheet : ExactSheet) (f : ExactCrease) → HasOneAnswer (LineOf sheet f)
+line_one sheet f = unless_one _ _ _ (unless_one _ _ _ (equal_one f))
 
-pub lines_one : (given : List ExactCrease) → HasOneAnswer (LinesOf given)
-lines_one given = for_each_one LineOf line_one given
+pub lines_one : (sheet : ExactSheet) (given : List ExactCrease) → HasOneAnswer (LinesOf sheet given)
+lines_one sheet given = for_each_one (LineOf sheet) (line_one sheet) given

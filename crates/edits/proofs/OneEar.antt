@@ -5,8 +5,9 @@ use Rattle.std.proofs.lemmas.Bool.{cases_order}
 use Rattle.exact.specs.Number.{ExactNumber, Same, Positive, sub, mul as mul_exact}
 use Rattle.exact.specs.Plane.{ExactPoint, SamePoint, DirOf, IsZero, away, turn, vector}
 use Rattle.exact.proofs.Positive.{zero_not}
+use Rattle.sheet.specs.Sheet.{ExactSheet}
 use Rattle.sheet.specs.Pattern.{ExactCrease}
-use Rattle.layers.specs.declared.mark.Mark.{Mark}
+use Rattle.sheet.specs.declared.mark.Mark.{Mark}
 use Rattle.geometry.specs.Root.{Root, plus, times, minus, count}
 use Rattle.geometry.specs.Gap.{num, dn, gx, gy, cross}
 use Rattle.geometry.proofs.Solve.{at, none, add, mul, opp, solve}
@@ -198,5 +199,5 @@ ear_is_one m p q r a b h l =
     let four = joins_one l.centre l.foot s.3 t.3 (subst (λ z. Joins s.3 l.centre z) foot (subst (λ z. Joins s.3 z h.foot) centre s.7)) t.7 in
     s.8 ∙ (λ i. crease (one i) (marked m) ∷ crease (two i) (marked m) ∷ crease (three i) (marked m) ∷ crease (four i) (countermarked m) ∷ []) ∙ sym t.8
 
-pub ear_one : (m : Mark) (p q r : ExactPoint) → HasOneAnswer (EarOf m p q r)
-ear_one m p q r = unless_one _ _ _ (unless_one _ _ _ (unless_one _ _ _ (unless_one _ _ _ (unless_one _ _ _ (unless_one _ _ _ (gives_one (IsEar m p q r) (ear_is_one m p q r)))))))
+pub ear_one : (sheet : ExactSheet) (m : Mark) (p q r : ExactPoint) → HasOneAnswer (EarOf sheet m p q r)
+ear_one sheet m p q r = unless_one _ _ _ (unless_one _ _ _ (unless_one _ _ _ (unless_one _ _ _ (unless_one _ _ _ (unless_one _ _ _ (gives_one (IsEar m p q r) (ear_is_one m p q r)))))))

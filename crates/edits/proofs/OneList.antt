@@ -5,7 +5,7 @@ use Rattle.std.proofs.lemmas.List.Elements.{All-contains}
 use Rattle.sheet.specs.Pattern.{ExactCrease}
 use Rattle.plane.specs.Segments.{HasCanonicalEnds}
 use Rattle.plane.proofs.Orders.{point_unique}
-use Rattle.pattern.proofs.Members.{same_list}
+use Rattle.creases.proofs.callers.Members.{same_list}
 use Rattle.edits.specs.CreaseSet.{SameCrease, AreCreases}
 
 -- two creases in lowest terms that are one are equal

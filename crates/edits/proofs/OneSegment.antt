@@ -18,7 +18,7 @@ use Rattle.edits.specs.Rays.{OnRay, RunsAlong, MeetsRay}
 use Rattle.edits.specs.Sights.{Sees}
 use Rattle.edits.specs.declared.sight.Sight.TheVariants as sight
 use Rattle.edits.proofs.OneEar.{dir_on, on_parallel}
-use Rattle.edits.proofs.Overlapping.{not_after_before}
+use Rattle.creases.proofs.callers.Overlaps.{not_after_before}
 use Rattle.edits.proofs.RaySides.{dir_apart, leads_on, leads_back, ray_on, ray_back, opposite_half}
 use Rattle.edits.proofs.Running.{starts_runs}
 use Rattle.edits.proofs.RunningBack.{starts_runs_back}

@@ -3,24 +3,25 @@ use Rattle.std.proofs.Common.{◌≡◌, ◌≢◌, List, get_or, refl, sym, sub
 use Rattle.std.specs.Prelude.{Contains, Option, Some, None, IfSome, IsSomeAnd}
 use Rattle.std.proofs.lemmas.List.Elements.{Contains-get_or}
 use Rattle.exact.specs.Plane.{ExactPoint, ExactSegment, IsSegment, Overlap, IsPointCanonical}
-use Rattle.sheet.specs.Pattern.{ExactCrease, IsKey}
-use Rattle.sheet.specs.declared.Colour.{Colour}
+use Rattle.sheet.specs.Pattern.{ExactCrease}
+use Rattle.sheet.specs.declared.colour.Colour.{Colour}
 use Rattle.geometry.specs.Meeting.{IsLater, IsEarlier}
-use Rattle.plane.specs.Segments.{HasCanonicalEnds}
-use Rattle.pattern.proofs.Overlaps.{overlap_itself}
+use Rattle.plane.specs.Segments.{HasCanonicalEnds, IsHeld}
+use Rattle.creases.proofs.callers.Overlaps.{overlap_itself}
 use Rattle.edits.specs.Parts.{Covers, IsCommonPart}
 use Rattle.edits.specs.CreaseSet.{crease}
 use Rattle.edits.specs.Pieces.{IsCut, IsFromTo, MayCome, IsPiece, IsRecoloured, Replaced}
-use Rattle.edits.proofs.StillApart.{one_or_apart, overlap_wider, covers_itself}
-use Rattle.edits.proofs.StillPatterns.{common_part, common_is_key, common_one}
-use Rattle.edits.proofs.CutPieces.{Put, segment, key_of, others_apart, told}
+use Rattle.creases.proofs.callers.Standing.{one_or_apart}
+use Rattle.edits.proofs.StillApart.{overlap_wider, covers_itself}
+use Rattle.edits.proofs.StillPatterns.{common_part, common_one}
+use Rattle.edits.proofs.CutPieces.{Put, segment, held_of, others_apart, told}
 
 -- a crease of the new colour stays
 pub kept_replaced : (old : List ExactCrease) (t : ExactCrease) (s : ExactSegment) (c : Colour) → IsCut old t s → t.colour ≡ c → Replaced (IsRecoloured s c t) old t old
 kept_replaced old t s c h same = λ f. (
-  λ at. elim (one_or_apart old h.draft.apart f t at h.there) [
+  λ at. elim (one_or_apart old h.standing.apart f t at h.there) [
     | inl e ↦ inr (inl (same, e))
-    | inr n ↦ inl (at, λ e. n (subst (λ (z : ExactCrease). Overlap z.seg t.seg) (sym e) (overlap_itself t.seg (key_of old t h.draft h.there).segment)))
+    | inr n ↦ inl (at, λ e. n (subst (λ (z : ExactCrease). Overlap z.seg t.seg) (sym e) (overlap_itself t.seg (held_of old t h.standing h.there).segment)))
   ],
   λ is. elim is [
     | inl x ↦ x.0
@@ -34,16 +35,16 @@ pub record AreShared (t s : ExactSegment) (lo hi : ExactPoint) : Type 0 where
   pub to : IsEarlier t.q s.q hi
 
 common : (old : List ExactCrease) (t : ExactCrease) (s : ExactSegment) (lo hi : ExactPoint) → IsCut old t s → AreShared t.seg s lo hi → IsCommonPart (segment lo hi) t.seg s
-common old t s lo hi h e = common_part t.seg s (segment lo hi) (key_of old t h.draft h.there).segment h.key.segment h.overlap e.from e.to
+common old t s lo hi h e = common_part t.seg s (segment lo hi) (held_of old t h.standing h.there).segment h.held.segment h.overlap e.from e.to
 
 shared_canonical : (old : List ExactCrease) (t : ExactCrease) (s : ExactSegment) (lo hi : ExactPoint) → IsCut old t s → AreShared t.seg s lo hi → HasCanonicalEnds (segment lo hi)
 shared_canonical old t s lo hi h e = (
-  elim e.from.one [ inl a ↦ subst IsPointCanonical (sym a) k.from | inr a ↦ subst IsPointCanonical (sym a) h.key.from ],
-  elim e.to.one [ inl a ↦ subst IsPointCanonical (sym a) k.to | inr a ↦ subst IsPointCanonical (sym a) h.key.to ],
+  elim e.from.one [ inl a ↦ subst IsPointCanonical (sym a) k.from | inr a ↦ subst IsPointCanonical (sym a) h.held.from ],
+  elim e.to.one [ inl a ↦ subst IsPointCanonical (sym a) k.to | inr a ↦ subst IsPointCanonical (sym a) h.held.to ],
 )
   where
-    k : IsKey t.seg
-    k = key_of old t h.draft h.there
+    k : IsHeld t.seg
+    k = held_of old t h.standing h.there
 
 pub shared_segment : (old : List ExactCrease) (t : ExactCrease) (s : ExactSegment) (lo hi : ExactPoint) → IsCut old t s → AreShared t.seg s lo hi → IsSegment (segment lo hi)
 shared_segment old t s lo hi h e = (common old t s lo hi h e).segment
@@ -58,12 +59,12 @@ pub common_may : (old mid : List ExactCrease) (t : ExactCrease) (s : ExactSegmen
 common_may old mid t s lo hi None h e m g = tt
 common_may old mid t s lo hi (Some u) h e m g =
     let part = common old t s lo hi h e in
-    let k = key_of old t h.draft h.there in
+    let ends = shared_canonical old t s lo hi h e in
     let v : ExactSegment = segment lo hi in
     subst (MayCome mid) (sym g.1) (record {
-      key = common_is_key v t.seg s k h.key h.overlap part (shared_canonical old t s lo hi h e);
+      held = record { segment = part.segment; from = ends.0; to = ends.1 };
       apart = λ i x lt. elim ((m (get_or mid i x)).0 (Contains-get_or mid i x lt)) [
-        | inl at ↦ others_apart old t (get_or mid i x) v h.draft h.there (on_first v t.seg s part) at.0 at.1
+        | inl at ↦ others_apart old t (get_or mid i x) v h.standing h.there (on_first v t.seg s part) at.0 at.1
         | inr piece ↦ (λ y. piece.part.part.outside (overlap_wider (get_or mid i x).seg v (get_or mid i x).seg s (covers_itself (get_or mid i x).seg) (on_second v t.seg s part) y))
       ];
     })

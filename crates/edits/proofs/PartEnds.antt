@@ -6,7 +6,7 @@ use Rattle.geometry.proofs.Lines.{On, on_from, on_trans}
 use Rattle.geometry.proofs.PointOrder.{ordered, tied, before_trans, before_not_itself, before_not_back, same_before, same_back, same_trans, not_past, before_later, later_of, earlier_of}
 use Rattle.geometry.proofs.Segments.{on_line, on_seg, end_on, end_p, end_q, covered, overlapped}
 use Rattle.geometry.proofs.Parts.{part_along}
-use Rattle.pattern.proofs.LastSegments.{ended}
+use Rattle.creases.proofs.callers.Overlaps.{ended}
 use Rattle.edits.specs.Parts.{Covers, IsOutside, IsPart}
 use Rattle.edits.proofs.Order.{later_before}
 

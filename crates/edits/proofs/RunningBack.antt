@@ -9,7 +9,7 @@ use Rattle.geometry.proofs.Found.{along_half}
 use Rattle.geometry.proofs.PointOrder.{before_trans, before_not_back, same_itself}
 use Rattle.geometry.proofs.Segments.{on_line, on_seg, end_on}
 use Rattle.edits.specs.Rays.{OnRay, RunsAlong}
-use Rattle.edits.proofs.Overlapping.{not_after_before}
+use Rattle.creases.proofs.callers.Overlaps.{not_after_before}
 use Rattle.edits.proofs.OneEar.{on_parallel}
 use Rattle.edits.proofs.Halfway.{between}
 use Rattle.edits.proofs.RaySides.{dir_apart, leads_back, ray_back, opposite_half}

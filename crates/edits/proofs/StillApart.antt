@@ -5,11 +5,13 @@ use Rattle.std.specs.Prelude.{All, AllPairs, Contains, slice_index_or}
 use Rattle.std.proofs.lemmas.Bool.{cases_order}
 use Rattle.std.proofs.lemmas.List.Elements.{All-contains}
 use Rattle.exact.specs.Plane.{ExactSegment, SamePoint, Before, IsSegment, Overlap, SegmentBefore}
-use Rattle.sheet.specs.Pattern.{ExactCrease, IsPattern, IsKey}
+use Rattle.sheet.specs.Sheet.{ExactSheet}
+use Rattle.sheet.specs.Pattern.{ExactCrease, ExactPattern, IsPattern, IsKey}
 use Rattle.geometry.proofs.PointOrder.{before_not_same, before_not_back, same_before, before_same, same_back, same_trans}
-use Rattle.pattern.proofs.LastSegments.{ended}
-use Rattle.pattern.proofs.Members.{segment_not_back, pair_at}
-use Rattle.pattern.proofs.Overlaps.{overlap_back}
+use Rattle.creases.proofs.callers.Overlaps.{ended}
+use Rattle.creases.proofs.callers.Members.{segment_not_back, pair_at}
+use Rattle.creases.proofs.callers.Overlaps.{overlap_back}
+use Rattle.creases.proofs.callers.Standing.{one_or_apart}
 use Rattle.edits.specs.Parts.{Covers, IsPart}
 use Rattle.edits.specs.Drawn.{IsLeft, StandsAfter, Drawn}
 use Rattle.edits.proofs.Overlapping.{only_parts}
@@ -20,19 +22,6 @@ overlap_wider u w t s c d v = (v.0, v.1, v.2, (c v.0 v.3.0, d v.0 v.3.1), (c v.1
 
 pub covers_itself : (s : ExactSegment) → Covers s s
 covers_itself s = λ r on. on
-
-abbrev Apart : ExactCrease → ExactCrease → Type 0
-Apart f g = ¬ Overlap f.seg g.seg
-
--- two creases of a pattern are one, or do not overlap
-pub one_or_apart : (creases : List ExactCrease) → AllPairs (λ f g. ¬ Overlap f.seg g.seg) creases → (f g : ExactCrease) → Contains creases f → Contains creases g → (f ≡ g) ⊎ (¬ Overlap f.seg g.seg)
-one_or_apart creases apart f g c d = elim (cases_order c.0 d.0) [
-  | inl e ↦ inl (sym c.2 ∙ get_or_default creases c.0 f g c.1 ∙ ap (λ i. slice_index_or creases i g) e ∙ d.2)
-  | inr n ↦ elim n [
-    | inl l ↦ inr (pair_at Apart creases f g apart c d l)
-    | inr l ↦ inr (λ v. pair_at Apart creases g f apart d c l (overlap_back f.seg g.seg v))
-  ]
-]
 
 -- a segment does not come before itself
 pub one_segment : (u w : ExactSegment) → SamePoint u.p w.p → SamePoint u.q w.q → ¬ SegmentBefore u w
@@ -56,9 +45,9 @@ parts_apart u w t s h l v p q b = elim (only_parts u t s h l v p) [
     passed u w e f x = before_not_back s.p s.q l.0 (same_before w.p s.q s.p f (before_same w.p u.q s.p e x))
 
 -- the creases that stand after a drawing do not overlap
-pub stand_apart : (creases : List ExactCrease) (d f g : ExactCrease) → All (λ (t : ExactCrease). IsKey t.seg) creases → AllPairs (λ (f : ExactCrease) (g : ExactCrease). ¬ Overlap f.seg g.seg) creases → IsSegment d.seg
+pub stand_apart : (sheet : ExactSheet) (creases : List ExactCrease) (d f g : ExactCrease) → All (λ (t : ExactCrease). IsKey sheet t.seg) creases → AllPairs (λ (f : ExactCrease) (g : ExactCrease). ¬ Overlap f.seg g.seg) creases → IsSegment d.seg
     → StandsAfter creases d f → StandsAfter creases d g → SegmentBefore f.seg g.seg → ¬ Overlap f.seg g.seg
-stand_apart creases d f g keys apart h x y b = elim x [
+stand_apart sheet creases d f g keys apart h x y b = elim x [
   | inl e ↦ elim y [
     | inl k ↦ absurd (segment_not_back g.seg g.seg (subst (λ (z : ExactCrease). SegmentBefore z.seg g.seg) (e ∙ sym k) b) (subst (λ (z : ExactCrease). SegmentBefore z.seg g.seg) (e ∙ sym k) b))
     | inr k ↦ (λ o. off g k (overlap_back d.seg g.seg (subst (λ (z : ExactCrease). Overlap z.seg g.seg) e o)))
@@ -74,7 +63,7 @@ stand_apart creases d f g keys apart h x y b = elim x [
     off u l = elim l [ inl kept ↦ kept.1 | inr part ↦ part.3.part.outside ]
 
     segment_of : (t : ExactCrease) → Contains creases t → IsSegment t.seg
-    segment_of t c = (All-contains (λ (t : ExactCrease). IsKey t.seg) creases t keys c).segment
+    segment_of t c = (All-contains (λ (t : ExactCrease). IsKey sheet t.seg) creases t keys c).segment
 
     -- a crease that is whole, and a part of another
     whole_and_part : (u t : ExactCrease) (w : ExactSegment) → Contains creases u → ¬ Overlap u.seg d.seg → Contains creases t → Overlap t.seg d.seg → IsPart w t.seg d.seg → ¬ Overlap u.seg w
@@ -102,6 +91,6 @@ stand_apart creases d f g keys apart h x y b = elim x [
     ]
 
 -- After a drawing over a pattern no two creases overlap.
-pub drawn_apart : (creases : List ExactCrease) (d : ExactCrease) (after : List ExactCrease) → IsPattern creases → IsSegment d.seg → Drawn creases d after → AllPairs (λ f g. ¬ Overlap f.seg g.seg) after
-drawn_apart creases d after p h s = λ i j x lt within.
-    stand_apart creases d (get_or after i x) (get_or after j x) p.keys p.apart h (s.each i x (omega (arith, lt, within))) (s.each j x within) (s.ordered i j x lt within)
+pub drawn_apart : (pattern : ExactPattern) (d : ExactCrease) (after : List ExactCrease) → IsPattern pattern → IsSegment d.seg → Drawn pattern.creases d after → AllPairs (λ f g. ¬ Overlap f.seg g.seg) after
+drawn_apart pattern d after p h s = λ i j x lt within.
+    stand_apart pattern.sheet pattern.creases d (get_or after i x) (get_or after j x) p.keys p.apart h (s.each i x (omega (arith, lt, within))) (s.each j x within) (s.ordered i j x lt within)

@@ -2,7 +2,7 @@
 use Rattle.std.specs.Prelude.{◌≡◌, List, All, AllPairs, Contains}
 use Rattle.exact.specs.Plane.{ExactSegment, SamePoint, SegmentBefore}
 use Rattle.sheet.specs.Pattern.{ExactCrease}
-use Rattle.sheet.specs.declared.Colour.{Colour}
+use Rattle.sheet.specs.declared.colour.Colour.{Colour}
 use Rattle.plane.specs.Segments.{HasCanonicalEnds}
 
 abbrev pub crease : ExactSegment → Colour → ExactCrease

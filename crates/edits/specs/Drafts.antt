@@ -1,9 +1,16 @@
--- Creases while they are drawn on: those of a pattern, but that there may be more than a pattern has.
-use Rattle.std.specs.Prelude.{List, All, AllPairs}
-use Rattle.exact.specs.Plane.{Overlap, SegmentBefore}
-use Rattle.sheet.specs.Pattern.{ExactCrease, IsKey}
+-- Creases while they are drawn on, beside the pattern from which they come.
+use Rattle.std.specs.Prelude.{List}
+use Rattle.sheet.specs.Pattern.{ExactCrease, ExactPattern}
 
-pub record IsDraft (creases : List ExactCrease) : Type 0 where
-  pub keys : All (λ f. IsKey f.seg) creases
-  pub ordered : AllPairs (λ f g. SegmentBefore f.seg g.seg) creases
-  pub apart : AllPairs (λ f g. ¬ Overlap f.seg g.seg) creases
+-- the pattern that is drawn on, and the creases that stand so far
+pub record ExactDraft : Type 0 where
+  pub pattern : ExactPattern
+  pub creases : List ExactCrease
+
+-- a pattern with these creases in place of its own
+abbrev pub with_creases : ExactPattern → List ExactCrease → ExactPattern
+with_creases old creases = record { sheet = old.sheet; creases = creases }
+
+-- the pattern that a draft makes
+abbrev pub pattern_of : ExactDraft → ExactPattern
+pattern_of draft = with_creases draft.pattern draft.creases

@@ -1,7 +1,7 @@
 -- What drawing a crease over others gives.
 use Rattle.std.specs.Prelude.{◌≡◌, ◌<◌, ◌⊎◌, List, [], ◌∷◌, length, Contains, Result, Ok}
 use Rattle.exact.specs.Plane.{ExactSegment, Overlap}
-use Rattle.sheet.specs.Pattern.{ExactCrease}
+use Rattle.sheet.specs.Pattern.{ExactCrease, crease_limit}
 use Rattle.edits.specs.Rules.{Gives, Unless, Then}
 use Rattle.edits.specs.Parts.{IsPart}
 use Rattle.edits.specs.CreaseSet.{AreCreases}
@@ -24,7 +24,7 @@ Drawn creases d after = AreCreases (StandsAfter creases d) after
 
 -- at most 20,000 creases may stand
 abbrev pub Counted : List ExactCrease → Result (List ExactCrease) EditBad → Type 0
-Counted creases = Unless (20000 < length creases) (bad.TooManyCreases (length creases)) (Gives (λ same. same ≡ creases))
+Counted creases = Unless (crease_limit < length creases) (bad.TooManyCreases (length creases)) (Gives (λ same. same ≡ creases))
 
 -- draws one crease
 abbrev pub DrawnOne : ExactCrease → List ExactCrease → Result (List ExactCrease) EditBad → Type 0

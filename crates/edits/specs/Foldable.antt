@@ -1,7 +1,7 @@
 -- A triangle that can be folded into a rabbit ear, with the directions of its sides.
 use Rattle.std.specs.Prelude.{ℕ, ◌+◌, ◌%◌, ◌<◌}
 use Rattle.exact.specs.Plane.{ExactPoint, DirOf}
-use Rattle.sheet.specs.Sheet.{InSheet}
+use Rattle.sheet.specs.Sheet.{ExactSheet, InSheet}
 use Rattle.qroot2.specs.Dir.{HasOddAngle}
 use Rattle.edits.specs.RabbitEar.{AreNotThree, AreAllJoined, IsNoMolecule}
 
@@ -18,9 +18,13 @@ pub record HasSides (p q r : ExactPoint) (i j m : ℕ) : Type 0 where
 abbrev pub HasOddTurn : ℕ → ℕ → Type 0
 HasOddTurn begins ends = HasOddAngle begins ((ends + 8) % 16)
 
--- no rule for the corners is broken
-pub record IsFoldable (p q r : ExactPoint) : Type 0 where
-  pub in_sheet : InSheet p × InSheet q × InSheet r
+-- three corners, not on one line, with angles that can be halved
+pub record IsMolecule (p q r : ExactPoint) : Type 0 where
   pub three : ¬ AreNotThree p q r
-  pub joined : AreAllJoined p q r
   pub even : ¬ IsNoMolecule p q r
+
+-- no rule for the corners is broken
+pub record IsFoldable (sheet : ExactSheet) (p q r : ExactPoint) : Type 0 where
+  pub in_sheet : InSheet sheet p × InSheet sheet q × InSheet sheet r
+  pub joined : AreAllJoined p q r
+  pub molecule : IsMolecule p q r

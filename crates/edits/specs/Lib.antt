@@ -16,8 +16,7 @@ pub mod Triangles
 pub mod RabbitEar
 pub mod Lines
 pub mod EditOf
-pub mod Places
-pub mod Stores
+pub mod Beside
 pub mod Pieces
 pub mod Foldable
 pub mod Sights

@@ -1,8 +1,8 @@
 -- The images of creases in a line.
 use Rattle.std.specs.Prelude.{◌≡◌, ℕ, ◌⊎◌, List, [], Contains, Result}
 use Rattle.exact.specs.Plane.{ExactPoint, ExactSegment, OnSeg, IsSegment, IsPointRepresentable}
-use Rattle.sheet.specs.Sheet.{InSheet, OnBorder}
-use Rattle.sheet.specs.Pattern.{ExactCrease}
+use Rattle.sheet.specs.Sheet.{ExactSheet, InSheet, OnBorder}
+use Rattle.sheet.specs.Pattern.{ExactCrease, ExactPattern}
 use Rattle.qroot2.specs.declared.sign.Sign.TheVariants.{Minus}
 use Rattle.plane.specs.Sides.{IsSide, IsOnLine}
 use Rattle.plane.specs.Segments.{HasCanonicalEnds}
@@ -38,19 +38,19 @@ pub record IsCreaseImage (at : ExactPoint) (k : ℕ) (f g : ExactCrease) : Type 
   pub colour : g.colour ≡ f.colour
 
 -- the image of one crease, in the sheet and not on a side of it
-abbrev pub ImageOf : ExactPoint → ℕ → ExactCrease → Result ExactCrease EditBad → Type 0
-ImageOf at k f =
+abbrev pub ImageOf : ExactSheet → ExactPoint → ℕ → ExactCrease → Result ExactCrease EditBad → Type 0
+ImageOf sheet at k f =
     Unless ((v : ExactPoint) × IsEndImage at k f.seg v × (¬ IsPointRepresentable v)) (bad.Range point.Image)
-    (Unless ((v : ExactPoint) × IsEndImage at k f.seg v × (¬ InSheet v)) bad.Outside
-    (Unless ((u : ExactSegment) × IsSegmentImage at k f.seg u × OnBorder u) bad.OnBorder
+    (Unless ((v : ExactPoint) × IsEndImage at k f.seg v × (¬ InSheet sheet v)) bad.Outside
+    (Unless ((u : ExactSegment) × IsSegmentImage at k f.seg u × OnBorder sheet u) bad.OnBorder
     (Gives (IsCreaseImage at k f))))
 
 -- the images of the creases concerned, in their order
-abbrev pub ImagesOf : ExactPoint → ℕ → List ExactCrease → Result (List ExactCrease) EditBad → Type 0
-ImagesOf at k concerned = Unless (concerned ≡ []) bad.NoCrease (ForEach (ImageOf at k) concerned)
+abbrev pub ImagesOf : ExactSheet → ExactPoint → ℕ → List ExactCrease → Result (List ExactCrease) EditBad → Type 0
+ImagesOf sheet at k concerned = Unless (concerned ≡ []) bad.NoCrease (ForEach (ImageOf sheet at k) concerned)
 
 -- what is drawn: the images of all creases that are mirrored
-abbrev pub MirrorImages : List ExactCrease → ExactPoint → ℕ → Result (List ExactCrease) EditBad → Type 0
-MirrorImages creases at k =
-    Unless (¬ InSheet at) bad.Outside
-    (Then (Gives (AreConcerned creases at k)) (ImagesOf at k))
+abbrev pub MirrorImages : ExactPattern → ExactPoint → ℕ → Result (List ExactCrease) EditBad → Type 0
+MirrorImages pattern at k =
+    Unless (¬ InSheet pattern.sheet at) bad.Outside
+    (Then (Gives (AreConcerned pattern.creases at k)) (ImagesOf pattern.sheet at k))

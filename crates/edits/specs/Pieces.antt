@@ -1,24 +1,24 @@
 -- What becomes of creases that are cut along a segment, one after another.
 use Rattle.std.specs.Prelude.{◌≡◌, ◌≢◌, ◌↔◌, ◌⊎◌, List, All, AllPairs, Contains, Option, Some, None}
 use Rattle.exact.specs.Plane.{ExactPoint, ExactSegment, Before, Overlap}
-use Rattle.sheet.specs.Pattern.{ExactCrease, IsKey}
-use Rattle.sheet.specs.declared.Colour.{Colour}
-use Rattle.plane.specs.Segments.{HasCanonicalEnds}
-use Rattle.edits.specs.Drafts.{IsDraft}
+use Rattle.sheet.specs.Pattern.{ExactCrease}
+use Rattle.sheet.specs.declared.colour.Colour.{Colour}
+use Rattle.plane.specs.Segments.{HasCanonicalEnds, IsHeld}
+use Rattle.creases.specs.Standing.{AreStanding}
 use Rattle.edits.specs.Parts.{IsPart}
 use Rattle.edits.specs.Recolour.{ComesFrom}
 
--- the crease t is one of the draft's, and overlaps s, along which it is cut
+-- the crease t is one of those that stand, and overlaps s, along which it is cut
 pub record IsCut (creases : List ExactCrease) (t : ExactCrease) (s : ExactSegment) : Type 0 where
-  pub draft : IsDraft creases
+  pub standing : AreStanding creases
   pub there : Contains creases t
-  pub key : IsKey s
+  pub held : IsHeld s
   pub overlap : Overlap t.seg s
 
--- those creases of a draft that overlap s, along which they are cut, each once
+-- those of the creases that stand that overlap s, along which they are cut, each once
 pub record AreCut (creases : List ExactCrease) (s : ExactSegment) (cut : List ExactCrease) : Type 0 where
-  pub draft : IsDraft creases
-  pub key : IsKey s
+  pub standing : AreStanding creases
+  pub held : IsHeld s
   pub members : (f : ExactCrease) → Contains cut f ↔ (Contains creases f × Overlap f.seg s)
   pub once : AllPairs (λ f g. f ≢ g) cut
 
@@ -27,9 +27,9 @@ abbrev pub IsFromTo : ExactPoint → ExactPoint → Option ExactSegment → Type
 IsFromTo a b (Some s) = Before a b × (s ≡ record { p = a; q = b })
 IsFromTo a b None = ¬ Before a b
 
--- a segment that can be put in: it may be a key, and overlaps no crease
+-- a segment that can be put in: it can be held, and overlaps no crease
 pub record MayCome (creases : List ExactCrease) (u : ExactSegment) : Type 0 where
-  pub key : IsKey u
+  pub held : IsHeld u
   pub apart : All (λ f. ¬ Overlap f.seg u) creases
 
 -- t becomes f where it is cut along s: a largest part outside s, in its colour, with ends in lowest terms

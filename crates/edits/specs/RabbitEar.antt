@@ -1,12 +1,12 @@
 -- The rabbit ear of a right isosceles triangle.
 use Rattle.std.specs.Prelude.{◌≡◌, ◌⊎◌, List, [], ◌∷◌, Result}
 use Rattle.exact.specs.Plane.{ExactPoint, ExactSegment, SamePoint, IsPointCanonical, IsPointRepresentable}
-use Rattle.sheet.specs.Sheet.{InSheet}
+use Rattle.sheet.specs.Sheet.{ExactSheet, InSheet}
 use Rattle.sheet.specs.Pattern.{ExactCrease}
-use Rattle.sheet.specs.declared.Colour.{Colour}
-use Rattle.sheet.specs.declared.Colour.TheVariants as colour
-use Rattle.layers.specs.declared.mark.Mark.{Mark}
-use Rattle.layers.specs.declared.mark.Mark.TheVariants as mark
+use Rattle.sheet.specs.declared.colour.Colour.{Colour}
+use Rattle.sheet.specs.declared.colour.Colour.TheVariants as colour
+use Rattle.sheet.specs.declared.mark.Mark.{Mark}
+use Rattle.sheet.specs.declared.mark.Mark.TheVariants as mark
 use Rattle.edits.specs.Rules.{Gives, Unless}
 use Rattle.edits.specs.Triangles.{IsOddCorner, AreOnOneLine, IsIncentre, IsFootBetween}
 use Rattle.edits.specs.Ends.{Joins, AreJoined}
@@ -49,9 +49,9 @@ pub record IsEar (m : Mark) (p q r : ExactPoint) (ear : List ExactCrease) : Type
       × (ear ≡ crease a (marked m) ∷ crease b (marked m) ∷ crease c (marked m) ∷ crease d (countermarked m) ∷ [])
 
 -- the creases of the rabbit ear of a triangle, in the order in which they are drawn
-abbrev pub EarOf : Mark → ExactPoint → ExactPoint → ExactPoint → Result (List ExactCrease) EditBad → Type 0
-EarOf m p q r =
-    Unless (¬ (InSheet p × InSheet q × InSheet r)) bad.Outside
+abbrev pub EarOf : ExactSheet → Mark → ExactPoint → ExactPoint → ExactPoint → Result (List ExactCrease) EditBad → Type 0
+EarOf sheet m p q r =
+    Unless (¬ (InSheet sheet p × InSheet sheet q × InSheet sheet r)) bad.Outside
     (Unless (AreNotThree p q r) bad.SamePoint
     (Unless (¬ AreAllJoined p q r) bad.NotDirection
     (Unless (IsNoMolecule p q r) bad.NoMolecule

@@ -2,7 +2,7 @@
 use Rattle.std.specs.Prelude.{◌≡◌, ℕ, ◌⊎◌, List, Contains}
 use Rattle.exact.specs.Plane.{ExactPoint, ExactSegment, DirOf, SamePoint, OnSeg}
 use Rattle.sheet.specs.Sheet.{sides}
-use Rattle.sheet.specs.Pattern.{ExactCrease}
+use Rattle.sheet.specs.Pattern.{ExactCrease, ExactPattern}
 
 -- r is on the ray from the point in direction k: it is the point and a positive multiple of the direction's vector. The point itself is not on the ray.
 abbrev pub OnRay : ExactPoint → ℕ → ExactPoint → Type 0
@@ -27,9 +27,9 @@ abbrev pub IsCrease : List ExactCrease → ExactSegment → Type 0
 IsCrease creases s = (f : ExactCrease) × Contains creases f × (f.seg ≡ s)
 
 -- s is a side of the sheet or that of a crease
-abbrev pub IsSideOrCrease : List ExactCrease → ExactSegment → Type 0
-IsSideOrCrease creases s = Contains sides s ⊎ IsCrease creases s
+abbrev pub IsSideOrCrease : ExactPattern → ExactSegment → Type 0
+IsSideOrCrease pattern s = Contains (sides pattern.sheet) s ⊎ IsCrease pattern.creases s
 
 -- r is on a side or a crease
-abbrev pub OnSideOrCrease : List ExactCrease → ExactPoint → Type 0
-OnSideOrCrease creases r = (s : ExactSegment) × IsSideOrCrease creases s × OnSeg r s
+abbrev pub OnSideOrCrease : ExactPattern → ExactPoint → Type 0
+OnSideOrCrease pattern r = (s : ExactSegment) × IsSideOrCrease pattern s × OnSeg r s

@@ -2,7 +2,7 @@
 use Rattle.std.specs.Prelude.{◌≡◌, ◌≢◌, ◌⊎◌, List, Contains, Result}
 use Rattle.exact.specs.Plane.{ExactSegment, Overlap}
 use Rattle.sheet.specs.Pattern.{ExactCrease}
-use Rattle.sheet.specs.declared.Colour.{Colour}
+use Rattle.sheet.specs.declared.colour.Colour.{Colour}
 use Rattle.edits.specs.Rules.{Gives, Unless, Then}
 use Rattle.edits.specs.Parts.{IsPart, IsCommonPart}
 use Rattle.edits.specs.CreaseSet.{AreCreases}

@@ -5,7 +5,7 @@ use Rattle.qroot2.specs.declared.sign.Sign.{Sign}
 use Rattle.qroot2.specs.declared.sign.Sign.TheVariants.{Minus, Zero, Plus}
 use Rattle.geometry.specs.Root.{count, Above}
 use Rattle.geometry.specs.Gap.{cross, det}
-use Rattle.sheet.specs.Sheet.{corner}
+use Rattle.sheet.specs.Sheet.{ExactSheet, corner}
 
 -- the first of two signs that is not Zero is Plus
 abbrev pub FirstIsPlus : Sign → Sign → Type 0
@@ -20,8 +20,8 @@ abbrev pub LeadsLeft : ExactPoint → ℕ → ℕ → ExactPoint → Type 0
 LeadsLeft at k j p = Above (cross (vector j) p at) ⊎ ((cross (vector j) p at ≡ count 0) × Above (det (vector j) (vector k)))
 
 -- it is so for the lines of all four sides: low, right, high, left
-pub record LeadsInside (at : ExactPoint) (k : ℕ) : Type 0 where
-  pub low : LeadsLeft at k 0 (corner 0 0)
-  pub right : LeadsLeft at k 4 (corner 1 0)
-  pub high : LeadsLeft at k 8 (corner 1 1)
-  pub left : LeadsLeft at k 12 (corner 0 1)
+pub record LeadsInside (sheet : ExactSheet) (at : ExactPoint) (k : ℕ) : Type 0 where
+  pub low : LeadsLeft at k 0 (corner sheet 0 0)
+  pub right : LeadsLeft at k 4 (corner sheet 1 0)
+  pub high : LeadsLeft at k 8 (corner sheet 1 1)
+  pub left : LeadsLeft at k 12 (corner sheet 0 1)

@@ -1,7 +1,7 @@
 //! The segment that halves the angle between two rays.
 ghost use Rattle.std.specs.Prelude.{IfOk, IsTrue, ◌↔◌, Contains};
 ghost use Rattle.sheet.specs.Pattern.{IsKey};
-ghost use Rattle.sheet.specs.Sheet.{sides as sheet_sides};
+ghost use Rattle.sheet.specs.Sheet.{sides};
 ghost use Rattle.exact.specs.Plane.{ExactSegment};
 ghost use Rattle.edits.specs.Rays.{RunsAlong, IsCrease};
 ghost use Rattle.edits.specs.Bisect.{HasRay, Bisector};
@@ -12,6 +12,7 @@ use crate::rays::runs_along;
 use pattern::Pattern;
 use plane::{Point, Seg, in_sheet, sheet_sides};
 use qroot2::Dir;
+use sheet::Sheet;
 
 /// The extension from a point in the direction halfway counterclockwise from the first direction to
 /// the second, a full turn where they are equal.
@@ -28,9 +29,9 @@ pub(crate) fn bisector(
     second: Dir,
 ) -> Result<Seg, EditBad>
     ensures is { Bisector pattern.now at.now first second result }
-    ensures key { IfOk result IsKey }
+    ensures key { IfOk result (IsKey pattern.now.sheet) }
 {
-    if !in_sheet(at) {
+    if !in_sheet(&pattern.sheet(), at) {
         return Err(EditBad::Outside);
     }
     if !has_ray(pattern, at, first) {
@@ -49,14 +50,14 @@ pub(crate) fn bisector(
 fn has_ray(pattern: &Pattern, at: &Point, dir: Dir) -> bool
     ensures { IsTrue result ↔ HasRay pattern.now at.now dir }
 {
-    has_side(at, dir) || has_crease(pattern, at, dir)
+    has_side(&pattern.sheet(), at, dir) || has_crease(pattern, at, dir)
 }
 
 /// Whether a side of the sheet runs along a ray from its start on.
-fn has_side(at: &Point, dir: Dir) -> bool
-    ensures { IsTrue result ↔ ((s : ExactSegment) × Contains sheet_sides s × RunsAlong at.now dir s) }
+fn has_side(sheet: &Sheet, at: &Point, dir: Dir) -> bool
+    ensures { IsTrue result ↔ ((s : ExactSegment) × Contains (sides sheet.now) s × RunsAlong at.now dir s) }
 {
-    let sides = sheet_sides();
+    let sides = sheet_sides(sheet);
     for side in &sides {
         if runs_along(at, dir, side) {
             return true;
@@ -67,7 +68,7 @@ fn has_side(at: &Point, dir: Dir) -> bool
 
 /// Whether a crease runs along a ray from its start on.
 fn has_crease(pattern: &Pattern, at: &Point, dir: Dir) -> bool
-    ensures { IsTrue result ↔ ((s : ExactSegment) × IsCrease pattern.now s × RunsAlong at.now dir s) }
+    ensures { IsTrue result ↔ ((s : ExactSegment) × IsCrease pattern.now.creases s × RunsAlong at.now dir s) }
 {
     for crease in pattern.creases() {
         if runs_along(at, dir, &crease.seg) {

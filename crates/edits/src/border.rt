@@ -4,15 +4,16 @@ ghost use Rattle.edits.specs.Walls.{FirstIsPlus, LeadsLeft, LeadsInside};
 
 use plane::{Point, corner, side};
 use qroot2::{Dir, Sign};
+use sheet::Sheet;
 
 /// Whether the ray from a point of the sheet leads inside at once.
-pub(crate) fn leads_inside(at: &Point, dir: Dir) -> bool
-    ensures { IsTrue result ↔ LeadsInside at.now dir }
+pub(crate) fn leads_inside(sheet: &Sheet, at: &Point, dir: Dir) -> bool
+    ensures { IsTrue result ↔ LeadsInside sheet.now at.now dir }
 {
-    leads_left(at, dir, 0, &corner(0, 0))
-        && leads_left(at, dir, 4, &corner(1, 0))
-        && leads_left(at, dir, 8, &corner(1, 1))
-        && leads_left(at, dir, 12, &corner(0, 1))
+    leads_left(at, dir, 0, &corner(sheet, 0, 0))
+        && leads_left(at, dir, 4, &corner(sheet, 1, 0))
+        && leads_left(at, dir, 8, &corner(sheet, 1, 1))
+        && leads_left(at, dir, 12, &corner(sheet, 0, 1))
 }
 
 /// Whether a point is on the left of the line through `p` in a direction of this number, or is on

@@ -1,38 +1,31 @@
 //! The delta from a pattern to what an edit made of it.
 ghost use Rattle.std.specs.Prelude.{◌≡◌, ◌↔◌, [], IfOk, IfErr, IsTrue, Ok};
 ghost use Rattle.sheet.specs.Pattern.{IsPattern};
-ghost use Rattle.pattern.specs.Deltas.{Fits, Leads, IsBetween, IsWithout};
+ghost use Rattle.pattern.specs.Deltas.{Fits, Leads, IsBetween};
+ghost use Rattle.edits.specs.Drafts.{pattern_of};
 ghost use Rattle.edits.specs.EditOf.{Changed};
 ghost use Rattle.edits.specs.Answers.{Refuses};
 
 use crate::EditBad;
 use crate::draft::Draft;
-use pattern::{Crease, Delta, Pattern};
-use ports::{Listed, NoMemory, Stop};
+use pattern::Delta;
+use ports::Stop;
 use std::alloc::Global;
 
-/// The delta that leads from a pattern to a draft: the creases that only the pattern has leave, and
-/// those that only the draft has come.
+/// The delta that leads from the pattern that was drawn on to what was made of it.
 ///
 /// # Errors
 ///
-/// `NoChange` where the draft is the pattern; `NoMemory` where memory for the lists runs out.
-pub(crate) fn changes(
-    alloc: Global,
-    pattern: &Pattern,
-    draft: &Draft,
-) -> Result<Delta, Stop<EditBad>>
-    requires { IsPattern draft.now }
-    ensures changed { IfOk result (λ _. Changed pattern.now draft.now (Ok draft.now)) }
-    ensures lists { IfOk result (IsBetween pattern.now draft.now) }
-    ensures fits { IfOk result (Fits pattern.now) }
-    ensures leads { IfOk result (λ delta. Leads pattern.now delta draft.now) }
-    ensures err { IfErr result (λ e. Refuses (Changed pattern.now draft.now) e) }
+/// `NoChange` where that is the pattern; `NoMemory` where memory for the lists runs out.
+pub(crate) fn changes(alloc: Global, draft: &Draft<'_>) -> Result<Delta, Stop<EditBad>>
+    requires { IsPattern (pattern_of draft.now) }
+    ensures changed { IfOk result (λ _. Changed draft.now.pattern draft.now.creases (Ok (pattern_of draft.now))) }
+    ensures lists { IfOk result (IsBetween draft.now.pattern.creases draft.now.creases) }
+    ensures fits { IfOk result (Fits draft.now.pattern) }
+    ensures leads { IfOk result (λ delta. Leads draft.now.pattern delta (pattern_of draft.now)) }
+    ensures err { IfErr result (λ e. Refuses (Changed draft.now.pattern draft.now.creases) e) }
 {
-    let delta = Delta {
-        removed: Listed::new(only_in_pattern(alloc, pattern, draft)?),
-        added: Listed::new(only_in_draft(alloc, draft, pattern)?),
-    };
+    let delta = draft.delta(alloc)?;
     if is_empty(&delta) {
         return Err(Stop::Why(EditBad::NoChange));
     }
@@ -44,33 +37,4 @@ fn is_empty(delta: &Delta) -> bool
     ensures { IsTrue result ↔ ((delta.now.removed ≡ []) × (delta.now.added ≡ [])) }
 {
     delta.removed.as_slice().is_empty() && delta.added.as_slice().is_empty()
-}
-
-/// The creases of a pattern that are not in a draft.
-fn only_in_pattern(alloc: Global, pattern: &Pattern, draft: &Draft) -> Result<Vec<Crease>, NoMemory>
-    ensures only { IfOk result (λ list. IsWithout pattern.now draft.now list.items) }
-    ensures pattern { IsPattern pattern.now }
-{
-    let mut only = Vec::new(alloc);
-    for crease in pattern.creases() {
-        if !draft.has(&crease) {
-            only.push(crease)?;
-        }
-    }
-    Ok(only)
-}
-
-/// The creases of a draft that are not in a pattern.
-fn only_in_draft(alloc: Global, draft: &Draft, pattern: &Pattern) -> Result<Vec<Crease>, NoMemory>
-    requires { IsPattern draft.now }
-    ensures { IfOk result (λ list. IsWithout draft.now pattern.now list.items) }
-{
-    let creases = draft.creases(alloc)?;
-    let mut only = Vec::new(alloc);
-    for crease in &creases {
-        if !pattern.has(crease) {
-            only.push(*crease)?;
-        }
-    }
-    Ok(only)
 }

@@ -1,9 +1,10 @@
 //! Cutting a draft along a segment: erasing, drawing and recolouring there.
 ghost use Rattle.std.specs.Prelude.{◌≡◌, ◌↔◌, ◌⊎◌, Contains, IsSomeAnd, IfSome, IfOk, OnOk, IsTrue};
 ghost use Rattle.exact.specs.Plane.{ExactSegment, Before, IsSegment};
-ghost use Rattle.sheet.specs.Pattern.{ExactCrease, IsKey};
+ghost use Rattle.sheet.specs.Pattern.{ExactCrease};
+ghost use Rattle.plane.specs.Segments.{IsHeld};
 ghost use Rattle.edits.specs.CreaseSet.{AreCreases, crease as crease_of};
-ghost use Rattle.edits.specs.Drafts.{IsDraft};
+ghost use Rattle.creases.specs.Standing.{AreStanding};
 ghost use Rattle.edits.specs.Drawn.{IsLeft, Drawn};
 ghost use Rattle.edits.specs.Erase.{IsBare};
 ghost use Rattle.edits.specs.Recolour.{StandsRecoloured};
@@ -16,14 +17,14 @@ use ports::NoMemory;
 use sheet::Colour;
 use std::alloc::Global;
 
-impl Draft {
+impl<'a> Draft<'a> {
     /// Whether no crease overlaps the segment.
     ///
     /// # Errors
     ///
     /// `NoMemory` where memory for the creases that overlap it runs out.
     pub(crate) fn is_bare(&self, alloc: Global, seg: &Seg) -> Result<bool, NoMemory>
-        ensures { IfOk result (λ bare. IsTrue bare ↔ IsBare self.now seg.now) }
+        ensures { IfOk result (λ bare. IsTrue bare ↔ IsBare self.now.creases seg.now) }
     {
         Ok(self.overlapped(alloc, seg)?.is_empty())
     }
@@ -35,8 +36,9 @@ impl Draft {
     ///
     /// `NoMemory` where memory for the parts runs out. Then the draft may be cut in part.
     pub(crate) fn erase(&mut self, alloc: Global, seg: &Seg) -> Result<(), NoMemory>
-        requires { IsKey seg.now }
-        ensures { OnOk result (AreCreases (IsLeft self.old seg.now) self.new) }
+        requires { IsHeld seg.now }
+        ensures left { OnOk result (AreCreases (IsLeft self.old.creases seg.now) self.new.creases) }
+        ensures pattern { self.new.pattern ≡ self.old.pattern }
     {
         let overlapped = self.overlapped(alloc, seg)?;
         self.cut_all(&overlapped, seg)
@@ -48,8 +50,9 @@ impl Draft {
     ///
     /// `NoMemory` where memory for the creases runs out. Then the draft may be cut in part.
     pub(crate) fn draw(&mut self, alloc: Global, crease: &Crease) -> Result<(), NoMemory>
-        requires { IsKey crease.now.seg }
-        ensures { OnOk result (Drawn self.old crease.now self.new) }
+        requires { IsHeld crease.now.seg }
+        ensures drawn { OnOk result (Drawn self.old.creases crease.now self.new.creases) }
+        ensures pattern { self.new.pattern ≡ self.old.pattern }
     {
         self.erase(alloc, &crease.seg)?;
         self.put_in(*crease)
@@ -67,8 +70,9 @@ impl Draft {
         seg: &Seg,
         colour: Colour,
     ) -> Result<(), NoMemory>
-        requires { IsKey seg.now }
-        ensures { OnOk result (AreCreases (StandsRecoloured self.old seg.now colour) self.new) }
+        requires { IsHeld seg.now }
+        ensures recoloured { OnOk result (AreCreases (StandsRecoloured self.old.creases seg.now colour) self.new.creases) }
+        ensures pattern { self.new.pattern ≡ self.old.pattern }
     {
         let overlapped = self.overlapped(alloc, seg)?;
         self.paint_all(&overlapped, seg, colour)
@@ -76,9 +80,10 @@ impl Draft {
 
     /// Takes the creases out that overlap a segment, and puts their parts outside the segment in.
     fn cut_all(&mut self, overlapped: &[Crease], seg: &Seg) -> Result<(), NoMemory>
-        requires { AreCut self.old seg.now overlapped.now }
-        ensures cut { OnOk result (AllReplaced (IsPiece seg.now) self.old overlapped.now self.new) }
-        ensures draft { OnOk result (IsDraft self.new) }
+        requires { AreCut self.old.creases seg.now overlapped.now }
+        ensures cut { OnOk result (AllReplaced (IsPiece seg.now) self.old.creases overlapped.now self.new.creases) }
+        ensures standing { OnOk result (AreStanding self.new.creases) }
+        ensures pattern { self.new.pattern ≡ self.old.pattern }
     {
         for crease in overlapped {
             self.cut(crease, seg)?;
@@ -88,11 +93,12 @@ impl Draft {
 
     /// Takes a crease out that overlaps a segment, and puts its parts outside the segment in.
     fn cut(&mut self, crease: &Crease, seg: &Seg) -> Result<(), NoMemory>
-        requires { IsCut self.old crease.now seg.now }
-        ensures cut { OnOk result (Replaced (IsPiece seg.now crease.now) self.old crease.now self.new) }
-        ensures draft { OnOk result (IsDraft self.new) }
+        requires { IsCut self.old.creases crease.now seg.now }
+        ensures cut { OnOk result (Replaced (IsPiece seg.now crease.now) self.old.creases crease.now self.new.creases) }
+        ensures standing { OnOk result (AreStanding self.new.creases) }
+        ensures pattern { self.new.pattern ≡ self.old.pattern }
     {
-        self.take_out(crease);
+        self.take_out(crease)?;
         self.put_part(part(crease.seg.p(), seg.p()), crease.colour)?;
         self.put_part(part(seg.q(), crease.seg.q()), crease.colour)
     }
@@ -104,9 +110,10 @@ impl Draft {
         seg: &Seg,
         colour: Colour,
     ) -> Result<(), NoMemory>
-        requires { AreCut self.old seg.now overlapped.now }
-        ensures painted { OnOk result (AllReplaced (IsRecoloured seg.now colour) self.old overlapped.now self.new) }
-        ensures draft { OnOk result (IsDraft self.new) }
+        requires { AreCut self.old.creases seg.now overlapped.now }
+        ensures painted { OnOk result (AllReplaced (IsRecoloured seg.now colour) self.old.creases overlapped.now self.new.creases) }
+        ensures standing { OnOk result (AreStanding self.new.creases) }
+        ensures pattern { self.new.pattern ≡ self.old.pattern }
     {
         for crease in overlapped {
             self.paint(crease, seg, colour)?;
@@ -116,9 +123,10 @@ impl Draft {
 
     /// Recolours a crease along a segment that it overlaps.
     fn paint(&mut self, crease: &Crease, seg: &Seg, colour: Colour) -> Result<(), NoMemory>
-        requires { IsCut self.old crease.now seg.now }
-        ensures painted { OnOk result (Replaced (IsRecoloured seg.now colour crease.now) self.old crease.now self.new) }
-        ensures draft { OnOk result (IsDraft self.new) }
+        requires { IsCut self.old.creases crease.now seg.now }
+        ensures painted { OnOk result (Replaced (IsRecoloured seg.now colour crease.now) self.old.creases crease.now self.new.creases) }
+        ensures standing { OnOk result (AreStanding self.new.creases) }
+        ensures pattern { self.new.pattern ≡ self.old.pattern }
     {
         if crease.colour == colour {
             return Ok(());
@@ -131,10 +139,11 @@ impl Draft {
 
     /// Puts a part of a crease in, if there is one.
     fn put_part(&mut self, part: Option<Seg>, colour: Colour) -> Result<(), NoMemory>
-        requires draft { IsDraft self.old }
-        requires may { IfSome part (MayCome self.old) }
-        ensures put { OnOk result ((f : ExactCrease) → Contains self.new f ↔ (Contains self.old f ⊎ IsSomeAnd part (λ u. f ≡ crease_of u colour))) }
-        ensures draft { OnOk result (IsDraft self.new) }
+        requires standing { AreStanding self.old.creases }
+        requires may { IfSome part (MayCome self.old.creases) }
+        ensures put { OnOk result ((f : ExactCrease) → Contains self.new.creases f ↔ (Contains self.old.creases f ⊎ IsSomeAnd part (λ u. f ≡ crease_of u colour))) }
+        ensures standing { OnOk result (AreStanding self.new.creases) }
+        ensures pattern { self.new.pattern ≡ self.old.pattern }
     {
         match part {
             Some(seg) => self.put_in(Crease { seg, colour }),

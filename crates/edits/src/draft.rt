@@ -1,106 +1,60 @@
-//! The creases of a pattern while they are drawn on.
-ghost use Rattle.std.specs.Prelude.{◌≡◌, ◌≢◌, ◌↔◌, ◌⊎◌, [], ◌∷◌, ◌++◌, All, AllPairs, Contains, length, IfOk, OnOk, IsTrue};
-ghost use Rattle.std.specs.declared.cmp.Ordering.{Ordering};
-ghost use Rattle.exact.specs.Plane.{Overlap};
-ghost use Rattle.sheet.specs.Pattern.{ExactCrease, IsKey, IsPattern};
-ghost use Rattle.edits.specs.Drafts.{IsDraft};
-ghost use Rattle.edits.specs.Places.{IsPlaceOf, IsEndOf, place_cmp};
+//! A pattern while it is drawn on.
+ghost use Rattle.std.specs.Prelude.{◌≡◌, ◌≢◌, ◌↔◌, AllPairs, Contains, length, IfOk, OnOk};
+ghost use Rattle.sheet.specs.Pattern.{ExactCrease, IsPattern};
+ghost use Rattle.plane.specs.Segments.{IsHeld};
+ghost use Rattle.pattern.specs.Deltas.{IsBetween};
+ghost use Rattle.creases.specs.Creases.{AreBut, AreOverlapping, AreWith, IsFree};
+ghost use Rattle.creases.specs.Standing.{AreStanding};
 
-use crate::place::Place;
-use pattern::{Crease, Pattern};
-use plane::{Seg, is_before};
-use ports::NoMemory;
+use pattern::{Crease, CreaseMap, Delta, Overlapping, Pattern};
+use plane::Seg;
+use ports::{Listed, NoMemory};
 use std::alloc::Global;
-use std::collections::BTreeMap;
 use std::marker::Model;
 
-/// The creases of a pattern while they are drawn on, found by their lines. No two overlap, and
-/// there may be more of them than a pattern has. Contracts see their list, ascending by segment.
+/// A pattern while it is drawn on: which of its creases are gone, and which came. No two of those
+/// that stand overlap, and there may be more of them than a pattern has. Contracts see the pattern
+/// as it was, and the list of the creases that stand, ascending by segment.
 #[derive(Drop)]
-pub(crate) struct Draft {
-    creases: BTreeMap<Place, Crease>,
+pub(crate) struct Draft<'a> {
+    pattern: &'a Pattern,
+    /// Creases of the pattern, with their colours.
+    gone: CreaseMap,
+    /// None of them, with its colour, is in the pattern.
+    come: CreaseMap,
 }
 
-impl Model for Draft {
-    ghost use Rattle.std.specs.Prelude.{List};
-    ghost use Rattle.sheet.specs.Pattern.{ExactCrease};
-    ghost use Rattle.edits.specs.Stores.{stored, IsStore};
+impl<'a> Model for Draft<'a> {
+    ghost use Rattle.edits.specs.Drafts.{ExactDraft};
+    ghost use Rattle.edits.specs.Beside.{standing, AreBeside};
 
-    ghost Value = { List ExactCrease };
+    ghost Value = { ExactDraft };
 
-    ghost view = { λ s. stored s.creases.entries };
+    ghost view = { λ s. record { pattern = s.pattern.now; creases = standing s.pattern.now s.gone s.come } };
 
-    ghost invariant = { λ s. IsStore s.creases.entries };
+    ghost invariant = { λ s. AreBeside s.pattern.now s.gone s.come };
 }
 
-impl Draft {
-    /// The draft without creases. It takes no memory.
-    pub(crate) fn empty(alloc: Global) -> Draft
-        ensures { result ≡ [] }
+impl<'a> Draft<'a> {
+    /// A pattern on which nothing is drawn. It takes no memory.
+    pub(crate) fn of(alloc: Global, pattern: &'a Pattern) -> Draft<'a>
+        ensures same { result ≡ record { pattern = pattern.now; creases = pattern.now.creases } }
+        ensures pattern { IsPattern pattern.now }
     {
+        let _len = pattern.len();
         Draft {
-            creases: BTreeMap::new(alloc),
+            pattern,
+            gone: CreaseMap::new(alloc),
+            come: CreaseMap::new(alloc),
         }
     }
 
-    /// The creases of a pattern.
-    ///
-    /// # Errors
-    ///
-    /// `NoMemory` where memory for the creases runs out.
-    pub(crate) fn of(alloc: Global, pattern: &Pattern) -> Result<Draft, NoMemory>
-        ensures same { IfOk result (λ draft. draft ≡ pattern.now) }
-        ensures pattern { IfOk result IsPattern }
-    {
-        let mut draft = Draft::empty(alloc);
-        for crease in pattern.creases() {
-            draft.append(crease)?;
-        }
-        Ok(draft)
-    }
-
-    /// How many creases there are.
+    /// How many creases stand.
     pub(crate) fn len(&self) -> usize
-        ensures count { result ≡ length self.now }
-        ensures draft { IsDraft self.now }
+        ensures count { result ≡ length self.now.creases }
+        ensures standing { AreStanding self.now.creases }
     {
-        self.creases.len()
-    }
-
-    /// Whether this crease, with its colour, is in the draft.
-    pub(crate) fn has(&self, crease: &Crease) -> bool
-        ensures { IsTrue result ↔ Contains self.now crease.now }
-    {
-        let _len = self.creases.len();
-        match self.creases.get(&Place::of(&crease.seg)) {
-            Some(here) => here == crease,
-            None => false,
-        }
-    }
-
-    /// The creases, ascending by their segments.
-    ///
-    /// # Errors
-    ///
-    /// `NoMemory` where memory for the list runs out.
-    pub(crate) fn creases(&self, alloc: Global) -> Result<Vec<Crease>, NoMemory>
-        ensures { IfOk result (λ list. list.items ≡ self.now) }
-    {
-        let mut list = self.creases.values().copied().collect(alloc)?;
-        chains::ascending(&mut list);
-        Ok(list)
-    }
-
-    /// Puts in a crease that comes after all others and overlaps none of them.
-    ///
-    /// # Errors
-    ///
-    /// `NoMemory` where memory for the crease runs out.
-    pub(crate) fn append(&mut self, crease: Crease) -> Result<(), NoMemory>
-        requires { IsDraft (self.old ++ crease ∷ []) }
-        ensures { OnOk result (self.new ≡ self.old ++ crease ∷ []) }
-    {
-        self.put_in(crease)
+        self.pattern.len() - self.gone.len() + self.come.len()
     }
 
     /// The creases that overlap a segment, each once.
@@ -109,55 +63,94 @@ impl Draft {
     ///
     /// `NoMemory` where memory for the list runs out.
     pub(crate) fn overlapped(&self, alloc: Global, seg: &Seg) -> Result<Vec<Crease>, NoMemory>
-        ensures members { IfOk result (λ list. (f : ExactCrease) → Contains list.items f ↔ (Contains self.now f × Overlap f.seg seg.now)) }
+        ensures members { IfOk result (λ list. AreOverlapping self.now.creases seg.now list.items) }
         ensures once { IfOk result (λ list. AllPairs (λ f g. f ≢ g) list.items) }
-        ensures draft { IsDraft self.now }
+        ensures standing { AreStanding self.now.creases }
     {
-        let end = Place::end_of(seg);
-        let mut list = Vec::new(alloc);
-        let mut before = self.creases.range(..end);
-        while let Some((place, crease)) = before.next_back() {
-            if !is_reached(place, crease, &end, seg) {
-                break;
-            }
-            list.push(*crease)?;
+        let mut list = left(alloc, self.pattern.overlapping(seg), &self.gone)?;
+        for crease in self.come.overlapping(seg) {
+            list.push(crease)?;
         }
         Ok(list)
     }
 
-    /// Takes out a crease that is in the draft.
-    pub(crate) fn take_out(&mut self, crease: &Crease)
-        requires { Contains self.old crease.now }
-        ensures taken { (f : ExactCrease) → Contains self.new f ↔ (Contains self.old f × (f ≢ crease.now)) }
-        ensures draft { IsDraft self.new }
+    /// Takes out a crease that stands.
+    ///
+    /// # Errors
+    ///
+    /// `NoMemory` where memory for what is gone runs out.
+    pub(crate) fn take_out(&mut self, crease: &Crease) -> Result<(), NoMemory>
+        requires { Contains self.old.creases crease.now }
+        ensures taken { OnOk result (AreBut self.old.creases crease.now self.new.creases) }
+        ensures standing { AreStanding self.new.creases }
+        ensures pattern { self.new.pattern ≡ self.old.pattern }
     {
-        let _len = self.creases.len();
-        self.creases.remove(&Place::of(&crease.seg));
+        if self.come.take(crease) {
+            return Ok(());
+        }
+        self.gone.put(*crease)?;
+        Ok(())
     }
 
-    /// Puts in a crease that overlaps none of the others.
+    /// Puts in a crease that overlaps none of those that stand. One of the pattern's that is gone
+    /// comes back.
     ///
     /// # Errors
     ///
     /// `NoMemory` where memory for the crease runs out.
     pub(crate) fn put_in(&mut self, crease: Crease) -> Result<(), NoMemory>
-        requires key { IsKey crease.seg }
-        requires apart { All (λ f. ¬ Overlap f.seg crease.seg) self.old }
-        ensures put { OnOk result ((f : ExactCrease) → Contains self.new f ↔ ((f ≡ crease) ⊎ Contains self.old f)) }
-        ensures draft { IsDraft self.new }
+        requires held { IsHeld crease.seg }
+        requires apart { IsFree self.old.creases crease.seg }
+        ensures put { OnOk result (AreWith self.old.creases crease self.new.creases) }
+        ensures standing { AreStanding self.new.creases }
+        ensures pattern { self.new.pattern ≡ self.old.pattern }
     {
-        self.creases.insert(Place::of(&crease.seg), crease)?;
+        if self.gone.take(&crease) {
+            return Ok(());
+        }
+        self.come.put(crease)?;
         Ok(())
+    }
+
+    /// The delta from the pattern to the creases that stand: those that are gone, and those that came.
+    ///
+    /// # Errors
+    ///
+    /// `NoMemory` where memory for the lists runs out.
+    pub(crate) fn delta(&self, alloc: Global) -> Result<Delta, NoMemory>
+        ensures lists { IfOk result (IsBetween self.now.pattern.creases self.now.creases) }
+        ensures pattern { IsPattern self.now.pattern }
+        ensures standing { AreStanding self.now.creases }
+    {
+        Ok(Delta {
+            removed: Listed::new(listed(alloc, &self.gone)?),
+            added: Listed::new(listed(alloc, &self.come)?),
+        })
     }
 }
 
-/// Whether a crease whose place is before the end of a segment overlaps it.
-fn is_reached(place: &Place, crease: &Crease, end: &Place, seg: &Seg) -> bool
-    requires place { IsPlaceOf crease.now.seg place.now }
-    requires key { IsKey crease.now.seg }
-    requires end { IsEndOf seg.now end.now }
-    requires before { place_cmp place.now end.now ≡ Ordering.Less }
-    ensures { IsTrue result ↔ Overlap crease.now.seg seg.now }
+/// Those of the creases that are not gone.
+fn left(alloc: Global, creases: Overlapping<'_>, gone: &CreaseMap) -> Result<Vec<Crease>, NoMemory>
+    requires { AllPairs (λ f g. f ≢ g) creases }
+    ensures members { IfOk result (λ list. (f : ExactCrease) → Contains list.items f ↔ (Contains creases.entry f × (¬ Contains gone.now f))) }
+    ensures once { IfOk result (λ list. AllPairs (λ f g. f ≢ g) list.items) }
 {
-    place.line == end.line && is_before(&seg.p(), &crease.seg.q())
+    let mut list = Vec::new(alloc);
+    for crease in creases {
+        if !gone.has(&crease) {
+            list.push(crease)?;
+        }
+    }
+    Ok(list)
+}
+
+/// The creases of a map, ascending.
+fn listed(alloc: Global, map: &CreaseMap) -> Result<Vec<Crease>, NoMemory>
+    ensures { IfOk result (λ list. list.items ≡ map.now) }
+{
+    let mut list = Vec::new(alloc);
+    for crease in map.creases() {
+        list.push(crease)?;
+    }
+    Ok(list)
 }

@@ -1,7 +1,8 @@
 //! What is drawn, erased and recoloured, as long as not too many creases stand.
-ghost use Rattle.std.specs.Prelude.{All, IfErr, Ok, OnOk};
-ghost use Rattle.sheet.specs.Pattern.{IsKey, IsPattern};
+ghost use Rattle.std.specs.Prelude.{◌≡◌, ◌≤◌, All, IfErr, Ok, OnOk, length};
+ghost use Rattle.sheet.specs.Pattern.{IsKey, IsPattern, crease_limit};
 ghost use Rattle.edits.specs.Answers.{Refuses};
+ghost use Rattle.edits.specs.Drafts.{pattern_of};
 ghost use Rattle.edits.specs.Drawn.{Counted, DrawnOne, DrawnInTurn};
 ghost use Rattle.edits.specs.Erase.{Erased};
 ghost use Rattle.edits.specs.Recolour.{Recoloured};
@@ -11,11 +12,8 @@ use crate::draft::Draft;
 use pattern::Crease;
 use plane::Seg;
 use ports::Stop;
-use sheet::Colour;
+use sheet::{CREASE_LIMIT, Colour};
 use std::alloc::Global;
-
-/// As many creases may stand in a pattern.
-const CREASES: usize = 20_000;
 
 /// Draws a crease over a draft.
 ///
@@ -24,13 +22,15 @@ const CREASES: usize = 20_000;
 /// `TooManyCreases` where more than 20,000 stand then; `NoMemory` where memory runs out.
 pub(crate) fn draw_one(
     alloc: Global,
-    draft: &mut Draft,
+    draft: &mut Draft<'_>,
     crease: &Crease,
 ) -> Result<(), Stop<EditBad>>
-    requires { IsKey crease.now.seg }
-    ensures ok { OnOk result (DrawnOne crease.now draft.old (Ok draft.new)) }
-    ensures pattern { OnOk result (IsPattern draft.new) }
-    ensures err { IfErr result (λ e. Refuses (DrawnOne crease.now draft.old) e) }
+    requires key { IsKey draft.old.pattern.sheet crease.now.seg }
+    requires pattern { IsPattern (pattern_of draft.old) }
+    ensures ok { OnOk result (DrawnOne crease.now draft.old.creases (Ok draft.new.creases)) }
+    ensures pattern { OnOk result (IsPattern (pattern_of draft.new)) }
+    ensures same { draft.new.pattern ≡ draft.old.pattern }
+    ensures err { IfErr result (λ e. Refuses (DrawnOne crease.now draft.old.creases) e) }
 {
     draft.draw(alloc, crease)?;
     count(draft)
@@ -43,14 +43,15 @@ pub(crate) fn draw_one(
 /// `TooManyCreases` where more than 20,000 stand after one of them; `NoMemory` where memory runs out.
 pub(crate) fn draw_in_turn(
     alloc: Global,
-    draft: &mut Draft,
+    draft: &mut Draft<'_>,
     creases: &[Crease],
 ) -> Result<(), Stop<EditBad>>
-    requires keys { All (λ f. IsKey f.seg) creases.now }
-    requires pattern { IsPattern draft.old }
-    ensures ok { OnOk result (DrawnInTurn creases.now draft.old (Ok draft.new)) }
-    ensures pattern { OnOk result (IsPattern draft.new) }
-    ensures err { IfErr result (λ e. Refuses (DrawnInTurn creases.now draft.old) e) }
+    requires keys { All (λ f. IsKey draft.old.pattern.sheet f.seg) creases.now }
+    requires pattern { IsPattern (pattern_of draft.old) }
+    ensures ok { OnOk result (DrawnInTurn creases.now draft.old.creases (Ok draft.new.creases)) }
+    ensures pattern { OnOk result (IsPattern (pattern_of draft.new)) }
+    ensures same { draft.new.pattern ≡ draft.old.pattern }
+    ensures err { IfErr result (λ e. Refuses (DrawnInTurn creases.now draft.old.creases) e) }
 {
     for crease in creases {
         draw_one(alloc, draft, crease)?;
@@ -64,11 +65,17 @@ pub(crate) fn draw_in_turn(
 ///
 /// `NoCrease` where no crease overlaps it; `TooManyCreases` where more than 20,000 stand then;
 /// `NoMemory` where memory runs out.
-pub(crate) fn erase_along(alloc: Global, draft: &mut Draft, seg: &Seg) -> Result<(), Stop<EditBad>>
-    requires { IsKey seg.now }
-    ensures ok { OnOk result (Erased draft.old seg.now (Ok draft.new)) }
-    ensures pattern { OnOk result (IsPattern draft.new) }
-    ensures err { IfErr result (λ e. Refuses (Erased draft.old seg.now) e) }
+pub(crate) fn erase_along(
+    alloc: Global,
+    draft: &mut Draft<'_>,
+    seg: &Seg,
+) -> Result<(), Stop<EditBad>>
+    requires key { IsKey draft.old.pattern.sheet seg.now }
+    requires pattern { IsPattern (pattern_of draft.old) }
+    ensures ok { OnOk result (Erased draft.old.creases seg.now (Ok draft.new.creases)) }
+    ensures pattern { OnOk result (IsPattern (pattern_of draft.new)) }
+    ensures same { draft.new.pattern ≡ draft.old.pattern }
+    ensures err { IfErr result (λ e. Refuses (Erased draft.old.creases seg.now) e) }
 {
     if draft.is_bare(alloc, seg)? {
         return Err(Stop::Why(EditBad::NoCrease));
@@ -85,14 +92,16 @@ pub(crate) fn erase_along(alloc: Global, draft: &mut Draft, seg: &Seg) -> Result
 /// `NoMemory` where memory runs out.
 pub(crate) fn recolour_along(
     alloc: Global,
-    draft: &mut Draft,
+    draft: &mut Draft<'_>,
     seg: &Seg,
     colour: Colour,
 ) -> Result<(), Stop<EditBad>>
-    requires { IsKey seg.now }
-    ensures ok { OnOk result (Recoloured draft.old seg.now colour (Ok draft.new)) }
-    ensures pattern { OnOk result (IsPattern draft.new) }
-    ensures err { IfErr result (λ e. Refuses (Recoloured draft.old seg.now colour) e) }
+    requires key { IsKey draft.old.pattern.sheet seg.now }
+    requires pattern { IsPattern (pattern_of draft.old) }
+    ensures ok { OnOk result (Recoloured draft.old.creases seg.now colour (Ok draft.new.creases)) }
+    ensures pattern { OnOk result (IsPattern (pattern_of draft.new)) }
+    ensures same { draft.new.pattern ≡ draft.old.pattern }
+    ensures err { IfErr result (λ e. Refuses (Recoloured draft.old.creases seg.now colour) e) }
 {
     if draft.is_bare(alloc, seg)? {
         return Err(Stop::Why(EditBad::NoCrease));
@@ -102,13 +111,13 @@ pub(crate) fn recolour_along(
 }
 
 /// Tests that not too many creases stand.
-fn count(draft: &Draft) -> Result<(), Stop<EditBad>>
-    ensures ok { OnOk result (Counted draft.now (Ok draft.now)) }
-    ensures pattern { OnOk result (IsPattern draft.now) }
-    ensures err { IfErr result (λ e. Refuses (Counted draft.now) e) }
+fn count(draft: &Draft<'_>) -> Result<(), Stop<EditBad>>
+    ensures ok { OnOk result (Counted draft.now.creases (Ok draft.now.creases)) }
+    ensures few { OnOk result (length draft.now.creases ≤ crease_limit) }
+    ensures err { IfErr result (λ e. Refuses (Counted draft.now.creases) e) }
 {
     let count = draft.len();
-    if count > CREASES {
+    if count > CREASE_LIMIT {
         return Err(Stop::Why(EditBad::TooManyCreases {
             count: count as u64,
         }));

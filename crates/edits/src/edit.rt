@@ -1,14 +1,13 @@
 //! The nine edits of a crease pattern.
-use layers::Mark;
 use pattern::Crease;
 use plane::Point;
 use ports::Listed;
 use qroot2::Dir;
-use sheet::Colour;
+use sheet::{Colour, Mark};
 
 /// A change of a crease pattern. To draw a segment in a colour over a pattern is to put it in and
-/// to leave, of each crease that it overlaps, only the largest parts outside it. Coordinates are in
-/// sides of the sheet, directions in units of 22.5 degrees, counterclockwise from the x axis.
+/// to leave, of each crease that it overlaps, only the largest parts outside it. Coordinates are
+/// those of the sheet, directions are in units of 22.5 degrees, counterclockwise from the x axis.
 ///
 /// Each entry names its rules in the order in which they are tested. Every edit then has two more:
 /// `TooManyCreases`, after each drawing, and `NoChange`.

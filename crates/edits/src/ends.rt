@@ -1,10 +1,11 @@
 //! The segment between two points that are given.
-ghost use Rattle.std.specs.Prelude.{IfOk, IsTrue, ◌↔◌};
+ghost use Rattle.std.specs.Prelude.{IfOk};
 ghost use Rattle.sheet.specs.Pattern.{IsKey};
-ghost use Rattle.edits.specs.Ends.{EndsOf, AreInSheet};
+ghost use Rattle.edits.specs.Ends.{EndsOf};
 
 use crate::EditBad;
-use plane::{Point, Seg, in_sheet, is_same_point, seg_on_border};
+use plane::{Point, Seg, are_in_sheet, is_same_point, seg_on_border};
+use sheet::Sheet;
 
 /// The segment between two points, given in either order, where it can stand in a pattern.
 ///
@@ -13,11 +14,11 @@ use plane::{Point, Seg, in_sheet, is_same_point, seg_on_border};
 /// `Outside` where a point is not in the sheet; else `SamePoint` where they are one; else
 /// `NotDirection` where none of the sixteen directions joins them; else `OnBorder` where the segment
 /// lies on a side of the sheet.
-pub(crate) fn segment_between(from: &Point, to: &Point) -> Result<Seg, EditBad>
-    ensures is { EndsOf from.now to.now result }
-    ensures key { IfOk result IsKey }
+pub(crate) fn segment_between(sheet: &Sheet, from: &Point, to: &Point) -> Result<Seg, EditBad>
+    ensures is { EndsOf sheet.now from.now to.now result }
+    ensures key { IfOk result (IsKey sheet.now) }
 {
-    if !are_in_sheet(from, to) {
+    if !are_in_sheet(sheet, from, to) {
         return Err(EditBad::Outside);
     }
     if is_same_point(from, to) {
@@ -26,15 +27,8 @@ pub(crate) fn segment_between(from: &Point, to: &Point) -> Result<Seg, EditBad>
     let Ok(seg) = Seg::new(*from, *to) else {
         return Err(EditBad::NotDirection);
     };
-    if seg_on_border(&seg) {
+    if seg_on_border(sheet, &seg) {
         return Err(EditBad::OnBorder);
     }
     Ok(seg)
-}
-
-/// Whether two points are in the sheet.
-pub(crate) fn are_in_sheet(from: &Point, to: &Point) -> bool
-    ensures { IsTrue result ↔ AreInSheet from.now to.now }
-{
-    in_sheet(from) && in_sheet(to)
 }

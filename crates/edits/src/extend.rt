@@ -1,7 +1,7 @@
 //! The segment along a ray to the first crease or side.
 ghost use Rattle.std.specs.Prelude.{◌<◌, IfOk, Contains};
 ghost use Rattle.exact.specs.Plane.{IsPointCanonical};
-ghost use Rattle.sheet.specs.Sheet.{sides as sheet_sides};
+ghost use Rattle.sheet.specs.Sheet.{sides};
 ghost use Rattle.sheet.specs.Pattern.{IsKey};
 ghost use Rattle.edits.specs.Ends.{Joins};
 ghost use Rattle.edits.specs.Rays.{OnRay, IsSideOrCrease};
@@ -14,6 +14,7 @@ use crate::{EditBad, PointKind};
 use pattern::Pattern;
 use plane::{Point, Seg, in_sheet, sheet_sides};
 use qroot2::Dir;
+use sheet::Sheet;
 
 /// The segment from a point along the ray in a direction to the first other point on a crease or a
 /// side of the sheet.
@@ -25,12 +26,13 @@ use qroot2::Dir;
 /// side in exactly one point, which cannot be held.
 pub(crate) fn extension(pattern: &Pattern, at: &Point, dir: Dir) -> Result<Seg, EditBad>
     ensures is { Extension pattern.now at.now dir result }
-    ensures key { IfOk result IsKey }
+    ensures key { IfOk result (IsKey pattern.now.sheet) }
 {
-    if !in_sheet(at) {
+    let sheet = pattern.sheet();
+    if !in_sheet(&sheet, at) {
         return Err(EditBad::Outside);
     }
-    if !leads_inside(at, dir) {
+    if !leads_inside(&sheet, at, dir) {
         return Err(EditBad::AtBorder);
     }
     match all_met(pattern, at, dir) {
@@ -49,7 +51,7 @@ fn all_met(pattern: &Pattern, at: &Point, dir: Dir) -> Sight
     ensures small { dir < 16 }
 {
     let _number = dir.number();
-    let mut seen = sides_met(at, dir);
+    let mut seen = sides_met(&pattern.sheet(), at, dir);
     for crease in pattern.creases() {
         seen = both(dir, seen, met(at, dir, &crease.seg));
     }
@@ -57,11 +59,11 @@ fn all_met(pattern: &Pattern, at: &Point, dir: Dir) -> Sight
 }
 
 /// What a ray meets of the sides of the sheet.
-fn sides_met(at: &Point, dir: Dir) -> Sight
-    ensures { Sees at.now dir (Contains sheet_sides) result }
+fn sides_met(sheet: &Sheet, at: &Point, dir: Dir) -> Sight
+    ensures { Sees at.now dir (Contains (sides sheet.now)) result }
 {
     let _number = dir.number();
-    let sides = sheet_sides();
+    let sides = sheet_sides(sheet);
     let mut seen = Sight::Nothing;
     for side in &sides {
         seen = both(dir, seen, met(at, dir, side));

@@ -1,10 +1,11 @@
 //! Laws of the edits. Each is a theorem: a function that does nothing, whose clause says what holds.
 ghost use Rattle.std.specs.Prelude.{◌≡◌, ◌≤◌, ◌⊎◌, List, length, Result};
 ghost use Rattle.exact.specs.Plane.{ExactSegment, SamePoint, Before, IsSegment, Overlap};
-ghost use Rattle.sheet.specs.Pattern.{ExactCrease, IsKey, IsPattern};
-ghost use Rattle.sheet.specs.declared.Colour.{Colour as AnyColour};
+ghost use Rattle.sheet.specs.Pattern.{ExactCrease, ExactPattern, IsKey, IsPattern, crease_limit};
+ghost use Rattle.sheet.specs.declared.colour.Colour.{Colour as AnyColour};
 ghost use Rattle.edits.specs.Parts.{IsPart};
 ghost use Rattle.edits.specs.CreaseSet.{AreCreases};
+ghost use Rattle.edits.specs.Drafts.{with_creases};
 ghost use Rattle.edits.specs.Drawn.{Drawn, IsLeft};
 ghost use Rattle.edits.specs.Recolour.{StandsRecoloured};
 ghost use Rattle.edits.specs.EditOf.{EditOf, HasSmallAxis};
@@ -13,7 +14,7 @@ ghost use Rattle.edits.specs.declared.refusal.EditBad.{EditBad as AnyBad};
 
 /// An edit of a pattern has at most one answer: a new pattern, or a broken rule.
 pub fn answer_is_one()
-    ensures { (creases : List ExactCrease) (edit : AnyEdit) → HasSmallAxis edit → (x y : Result (List ExactCrease) AnyBad) → EditOf creases edit x → EditOf creases edit y → x ≡ y }
+    ensures { (old : ExactPattern) (edit : AnyEdit) → HasSmallAxis edit → (x y : Result ExactPattern AnyBad) → EditOf old edit x → EditOf old edit y → x ≡ y }
 {}
 
 /// A segment has at most two largest parts outside another that overlaps it: the part up to where
@@ -27,7 +28,7 @@ pub fn parts_are_two()
 /// A crease that is drawn over a pattern, a part that is erased and a part that is recoloured leave
 /// a pattern, where at most 20,000 creases stand.
 pub fn patterns_are_kept()
-    ensures drawn { (creases : List ExactCrease) (d : ExactCrease) (after : List ExactCrease) → IsPattern creases → IsKey d.seg → Drawn creases d after → length after ≤ 20000 → IsPattern after }
-    ensures erased { (creases : List ExactCrease) (s : ExactSegment) (after : List ExactCrease) → IsPattern creases → IsKey s → AreCreases (IsLeft creases s) after → length after ≤ 20000 → IsPattern after }
-    ensures recoloured { (creases : List ExactCrease) (s : ExactSegment) (c : AnyColour) (after : List ExactCrease) → IsPattern creases → IsKey s → AreCreases (StandsRecoloured creases s c) after → length after ≤ 20000 → IsPattern after }
+    ensures drawn { (old : ExactPattern) (d : ExactCrease) (after : List ExactCrease) → IsPattern old → IsKey old.sheet d.seg → Drawn old.creases d after → length after ≤ crease_limit → IsPattern (with_creases old after) }
+    ensures erased { (old : ExactPattern) (s : ExactSegment) (after : List ExactCrease) → IsPattern old → IsKey old.sheet s → AreCreases (IsLeft old.creases s) after → length after ≤ crease_limit → IsPattern (with_creases old after) }
+    ensures recoloured { (old : ExactPattern) (s : ExactSegment) (c : AnyColour) (after : List ExactCrease) → IsPattern old → IsKey old.sheet s → AreCreases (StandsRecoloured old.creases s c) after → length after ≤ crease_limit → IsPattern (with_creases old after) }
 {}

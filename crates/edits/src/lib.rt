@@ -14,7 +14,6 @@ mod flip;
 mod laws;
 mod lines;
 mod mirror;
-mod place;
 mod planning;
 mod rabbit_ear;
 mod rays;
@@ -29,5 +28,7 @@ pub use refusal::{EditBad, PointKind};
 
 #[cfg(test)]
 mod extend_tests;
+#[cfg(test)]
+mod sheet_tests;
 #[cfg(test)]
 mod tests;

@@ -7,12 +7,12 @@ ghost use Rattle.edits.specs.Lefts.{AreLeft};
 ghost use Rattle.edits.specs.Rules.{ForEach};
 ghost use Rattle.edits.specs.Mirror.{AreConcerned, ImageOf, IsConcerned, IsEndImage, IsSegmentImage, MirrorImages};
 
-use crate::ends::are_in_sheet;
 use crate::{EditBad, PointKind};
 use pattern::{Crease, Pattern};
-use plane::{Point, Seg, in_sheet, reflect, seg_on_border, side};
+use plane::{Point, Seg, are_in_sheet, in_sheet, reflect, seg_on_border, side};
 use ports::{NoMemory, Stop};
 use qroot2::{Dir, Sign};
+use sheet::Sheet;
 use std::alloc::Global;
 
 /// The images, in the line through a point in a direction, of the creases of a pattern that have no
@@ -31,17 +31,18 @@ pub(crate) fn mirror_images(
     dir: Dir,
 ) -> Result<Vec<Crease>, Stop<EditBad>>
     ensures ok { IfOk result (λ images. MirrorImages pattern.now at.now dir (Ok images.items)) }
-    ensures keys { IfOk result (λ images. All (λ f. IsKey f.seg) images.items) }
+    ensures keys { IfOk result (λ images. All (λ f. IsKey pattern.now.sheet f.seg) images.items) }
     ensures err { IfErr result (λ e. Refuses (MirrorImages pattern.now at.now dir) e) }
 {
-    if !in_sheet(at) {
+    let sheet = pattern.sheet();
+    if !in_sheet(&sheet, at) {
         return Err(Stop::Why(EditBad::Outside));
     }
     let concerned = concerned(alloc, pattern, at, dir)?;
     if concerned.is_empty() {
         return Err(Stop::Why(EditBad::NoCrease));
     }
-    images(alloc, &concerned, at, dir)
+    images(alloc, &sheet, &concerned, at, dir)
 }
 
 /// The creases of a pattern that are mirrored, ascending.
@@ -51,7 +52,7 @@ fn concerned(
     at: &Point,
     dir: Dir,
 ) -> Result<Vec<Crease>, NoMemory>
-    ensures { IfOk result (λ list. AreConcerned pattern.now at.now dir list.items) }
+    ensures { IfOk result (λ list. AreConcerned pattern.now.creases at.now dir list.items) }
 {
     let mut concerned = Vec::new(alloc);
     for crease in pattern.creases() {
@@ -83,36 +84,39 @@ fn are_left(from: Sign, to: Sign) -> bool
 /// The images of creases, in their order.
 fn images(
     alloc: Global,
+    sheet: &Sheet,
     creases: &[Crease],
     at: &Point,
     dir: Dir,
 ) -> Result<Vec<Crease>, Stop<EditBad>>
-    ensures ok { IfOk result (λ images. ForEach (ImageOf at.now dir) creases.now (Ok images.items)) }
-    ensures keys { IfOk result (λ images. All (λ f. IsKey f.seg) images.items) }
-    ensures err { IfErr result (λ e. Refuses (ForEach (ImageOf at.now dir) creases.now) e) }
+    ensures ok { IfOk result (λ images. ForEach (ImageOf sheet.now at.now dir) creases.now (Ok images.items)) }
+    ensures keys { IfOk result (λ images. All (λ f. IsKey sheet.now f.seg) images.items) }
+    ensures err { IfErr result (λ e. Refuses (ForEach (ImageOf sheet.now at.now dir) creases.now) e) }
 {
     let mut images = Vec::new(alloc);
     for crease in creases {
-        let image = image_of(crease, at, dir)?;
+        let image = image_of(sheet, crease, at, dir)?;
         images.push(image)?;
     }
     Ok(images)
 }
 
 /// The image of a crease, in its colour, where it can stand in a pattern.
-fn image_of(crease: &Crease, at: &Point, dir: Dir) -> Result<Crease, EditBad>
-    ensures is { ImageOf at.now dir crease.now result }
-    ensures key { IfOk result (λ image. IsKey image.seg) }
+fn image_of(sheet: &Sheet, crease: &Crease, at: &Point, dir: Dir) -> Result<Crease, EditBad>
+    ensures is { ImageOf sheet.now at.now dir crease.now result }
+    ensures key { IfOk result (λ image. IsKey sheet.now image.seg) }
 {
+    // from 1 to 8
+    let _width = sheet.w();
     let Some(seg) = segment_image(&crease.seg, at, dir) else {
         return Err(EditBad::Range {
             point: PointKind::Image,
         });
     };
-    if !are_in_sheet(&seg.p(), &seg.q()) {
+    if !are_in_sheet(sheet, &seg.p(), &seg.q()) {
         return Err(EditBad::Outside);
     }
-    if seg_on_border(&seg) {
+    if seg_on_border(sheet, &seg) {
         return Err(EditBad::OnBorder);
     }
     Ok(Crease {

@@ -10,35 +10,35 @@ ghost use Rattle.edits.specs.RabbitEar.{marked, countermarked, IsEar, EarOf};
 
 use crate::triangle::Triangle;
 use crate::{EditBad, PointKind};
-use layers::Mark;
 use pattern::Crease;
 use plane::{Point, Seg};
-use sheet::Colour;
+use sheet::{Colour, Mark, Sheet};
 
 /// The creases of the rabbit ear of a triangle, in the order in which they are drawn: from the
 /// corners to the incentre with the mark, and from there to its foot on the side from `p` to `q`
 /// with the other mark.
 pub(crate) fn rabbit_ear(
+    sheet: &Sheet,
     mark: Mark,
     p: &Point,
     q: &Point,
     r: &Point,
 ) -> Result<[Crease; 4], EditBad>
-    ensures ok { IfOk result (λ ear. EarOf mark p.now q.now r.now (Ok ear)) }
-    ensures keys { IfOk result (λ ear. All (λ f. IsKey f.seg) ear) }
-    ensures err { IfErr result (λ e. EarOf mark p.now q.now r.now (Err e)) }
+    ensures ok { IfOk result (λ ear. EarOf sheet.now mark p.now q.now r.now (Ok ear)) }
+    ensures keys { IfOk result (λ ear. All (λ f. IsKey sheet.now f.seg) ear) }
+    ensures err { IfErr result (λ e. EarOf sheet.now mark p.now q.now r.now (Err e)) }
 {
-    let triangle = Triangle::of(p, q, r)?;
-    ear_of(mark, &triangle)
+    let triangle = Triangle::of(sheet, p, q, r)?;
+    ear_of(sheet, mark, &triangle)
 }
 
 /// The creases of the rabbit ear of a triangle, where its incentre and the foot of that can be held.
-fn ear_of(mark: Mark, triangle: &Triangle) -> Result<[Crease; 4], EditBad>
-    requires foldable { IsFoldable triangle.now.p triangle.now.q triangle.now.r }
+fn ear_of(sheet: &Sheet, mark: Mark, triangle: &Triangle) -> Result<[Crease; 4], EditBad>
+    requires foldable { IsFoldable sheet.now triangle.now.p triangle.now.q triangle.now.r }
     requires sides { HasSides triangle.now.p triangle.now.q triangle.now.r triangle.now.sides.first triangle.now.sides.second triangle.now.sides.third }
-    ensures ok { IfOk result (λ ear. EarOf mark triangle.now.p triangle.now.q triangle.now.r (Ok ear)) }
-    ensures keys { IfOk result (λ ear. All (λ f. IsKey f.seg) ear) }
-    ensures err { IfErr result (λ e. EarOf mark triangle.now.p triangle.now.q triangle.now.r (Err e)) }
+    ensures ok { IfOk result (λ ear. EarOf sheet.now mark triangle.now.p triangle.now.q triangle.now.r (Ok ear)) }
+    ensures keys { IfOk result (λ ear. All (λ f. IsKey sheet.now f.seg) ear) }
+    ensures err { IfErr result (λ e. EarOf sheet.now mark triangle.now.p triangle.now.q triangle.now.r (Err e)) }
 {
     let Some(centre) = triangle.incentre() else {
         return Err(EditBad::Range {
@@ -50,36 +50,38 @@ fn ear_of(mark: Mark, triangle: &Triangle) -> Result<[Crease; 4], EditBad>
             point: PointKind::Foot,
         });
     };
-    Ok(ear(mark, triangle, &centre, &foot))
+    Ok(ear(sheet, mark, triangle, &centre, &foot))
 }
 
 /// The creases of the rabbit ear of a triangle by its incentre and the foot of that.
-fn ear(mark: Mark, triangle: &Triangle, centre: &Point, foot: &Point) -> [Crease; 4]
-    requires foldable { IsFoldable triangle.now.p triangle.now.q triangle.now.r }
+fn ear(sheet: &Sheet, mark: Mark, triangle: &Triangle, centre: &Point, foot: &Point) -> [Crease; 4]
+    requires foldable { IsFoldable sheet.now triangle.now.p triangle.now.q triangle.now.r }
     requires centre { IsIncentre triangle.now.p triangle.now.q triangle.now.r centre.now }
     requires centre_canonical { IsPointCanonical centre.now }
     requires foot { IsFootBetween triangle.now.p triangle.now.q centre.now foot.now }
     requires foot_canonical { IsPointCanonical foot.now }
     ensures is { IsEar mark triangle.now.p triangle.now.q triangle.now.r result }
-    ensures keys { All (λ f. IsKey f.seg) result }
+    ensures keys { All (λ f. IsKey sheet.now f.seg) result }
 {
     [
-        spoke(&triangle.p, centre, same_colour(mark)),
-        spoke(&triangle.q, centre, same_colour(mark)),
-        spoke(&triangle.r, centre, same_colour(mark)),
-        spoke(foot, centre, other_colour(mark)),
+        spoke(sheet, &triangle.p, centre, same_colour(mark)),
+        spoke(sheet, &triangle.q, centre, same_colour(mark)),
+        spoke(sheet, &triangle.r, centre, same_colour(mark)),
+        spoke(sheet, foot, centre, other_colour(mark)),
     ]
 }
 
 /// The crease from a point of the sheet to an incentre.
-fn spoke(from: &Point, centre: &Point, colour: Colour) -> Crease
-    requires from { InSheet from.now }
-    requires centre { IsInside centre.now }
+fn spoke(sheet: &Sheet, from: &Point, centre: &Point, colour: Colour) -> Crease
+    requires from { InSheet sheet.now from.now }
+    requires centre { IsInside sheet.now centre.now }
     requires joined { AreJoined from.now centre.now }
     ensures joins { Joins result.seg from.now centre.now }
     ensures colour { result.colour ≡ colour }
-    ensures key { IsKey result.seg }
+    ensures key { IsKey sheet.now result.seg }
 {
+    // from 1 to 8
+    let _width = sheet.w();
     let seg = Seg::new(*from, *centre).unwrap();
     Crease { seg, colour }
 }

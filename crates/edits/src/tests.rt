@@ -1,26 +1,25 @@
 //! Edits of small patterns, worked by hand.
 
 use crate::{Edit, EditBad, PointKind, plan};
-use layers::Mark;
 use pattern::{Crease, Pattern, pattern_bytes, read_pattern};
 use plane::{Point, Seg, read_point};
 use ports::{Listed, Stop};
 use qroot2::Dir;
-use sheet::Colour;
+use sheet::{Colour, Mark};
 use std::alloc::Global;
 use std::fmt::Write;
 use std::process::Abort;
 use std::test::Fail;
 
-fn point(rt: &impl Abort, text: &str) -> Point {
+pub(crate) fn point(rt: &impl Abort, text: &str) -> Point {
     read_point(text.as_bytes()).ok().expect(rt, "a point")
 }
 
-fn dir(rt: &impl Abort, number: u8) -> Dir {
+pub(crate) fn dir(rt: &impl Abort, number: u8) -> Dir {
     Dir::new(number).expect(rt, "a direction")
 }
 
-fn draw(rt: &impl Abort, colour: Colour, from: &str, to: &str) -> Edit {
+pub(crate) fn draw(rt: &impl Abort, colour: Colour, from: &str, to: &str) -> Edit {
     Edit::Draw {
         colour,
         from: point(rt, from),
@@ -28,14 +27,14 @@ fn draw(rt: &impl Abort, colour: Colour, from: &str, to: &str) -> Edit {
     }
 }
 
-fn erase(rt: &impl Abort, from: &str, to: &str) -> Edit {
+pub(crate) fn erase(rt: &impl Abort, from: &str, to: &str) -> Edit {
     Edit::Erase {
         from: point(rt, from),
         to: point(rt, to),
     }
 }
 
-fn recolour(rt: &impl Abort, colour: Colour, from: &str, to: &str) -> Edit {
+pub(crate) fn recolour(rt: &impl Abort, colour: Colour, from: &str, to: &str) -> Edit {
     Edit::Recolour {
         colour,
         from: point(rt, from),
@@ -43,7 +42,7 @@ fn recolour(rt: &impl Abort, colour: Colour, from: &str, to: &str) -> Edit {
     }
 }
 
-fn extend(rt: &impl Abort, colour: Colour, at: &str, number: u8) -> Edit {
+pub(crate) fn extend(rt: &impl Abort, colour: Colour, at: &str, number: u8) -> Edit {
     Edit::Extend {
         colour,
         at: point(rt, at),
@@ -51,7 +50,7 @@ fn extend(rt: &impl Abort, colour: Colour, at: &str, number: u8) -> Edit {
     }
 }
 
-fn bisect(rt: &impl Abort, colour: Colour, at: &str, first: u8, second: u8) -> Edit {
+pub(crate) fn bisect(rt: &impl Abort, colour: Colour, at: &str, first: u8, second: u8) -> Edit {
     Edit::Bisect {
         colour,
         at: point(rt, at),
@@ -60,14 +59,14 @@ fn bisect(rt: &impl Abort, colour: Colour, at: &str, first: u8, second: u8) -> E
     }
 }
 
-fn mirror(rt: &impl Abort, at: &str, number: u8) -> Edit {
+pub(crate) fn mirror(rt: &impl Abort, at: &str, number: u8) -> Edit {
     Edit::Mirror {
         at: point(rt, at),
         dir: dir(rt, number),
     }
 }
 
-fn rabbit_ear(rt: &impl Abort, mark: Mark, p: &str, q: &str, r: &str) -> Edit {
+pub(crate) fn rabbit_ear(rt: &impl Abort, mark: Mark, p: &str, q: &str, r: &str) -> Edit {
     Edit::RabbitEar {
         mark,
         p: point(rt, p),
@@ -77,7 +76,7 @@ fn rabbit_ear(rt: &impl Abort, mark: Mark, p: &str, q: &str, r: &str) -> Edit {
 }
 
 /// Whether the edit makes the second pattern of the first, and the inverse of its delta leads back.
-fn gives(alloc: Global, text: &str, edit: &Edit, new: &str) -> Result<bool, Fail> {
+pub(crate) fn gives(alloc: Global, text: &str, edit: &Edit, new: &str) -> Result<bool, Fail> {
     let pattern = read_pattern(alloc, text.as_bytes())?;
     let delta = plan(alloc, &pattern, edit)?;
     let changed = pattern.applied(alloc, &delta)?;
@@ -101,7 +100,12 @@ fn refusal(alloc: Global, pattern: &Pattern, edit: &Edit) -> Option<EditBad> {
 }
 
 /// Whether the edit of the pattern is refused for this reason.
-fn is_refused(alloc: Global, text: &str, edit: &Edit, why: EditBad) -> Result<bool, Fail> {
+pub(crate) fn is_refused(
+    alloc: Global,
+    text: &str,
+    edit: &Edit,
+    why: EditBad,
+) -> Result<bool, Fail> {
     let pattern = read_pattern(alloc, text.as_bytes())?;
     Ok(refusal(alloc, &pattern, edit) == Some(why))
 }
@@ -526,7 +530,7 @@ fn many_lines(rt: HostRuntime) -> Result<(), Fail> {
 }
 
 /// The valley between two points.
-fn valley(rt: &impl Abort, from: &str, to: &str) -> Crease {
+pub(crate) fn valley(rt: &impl Abort, from: &str, to: &str) -> Crease {
     let seg = Seg::new(point(rt, from), point(rt, to));
     Crease {
         seg: seg.ok().expect(rt, "a segment"),

@@ -2,17 +2,18 @@
 ghost use Rattle.std.specs.Prelude.{◌≡◌, ◌≢◌, ◌⊎◌, ℕ, ◌<◌, ◌+◌, ◌%◌, IfOk, IfErr, IfSome, IfNone, IsTrue, ◌↔◌, Err};
 ghost use Rattle.exact.specs.Plane.{ExactPoint, DirOf, IsPointCanonical, IsPointRepresentable};
 ghost use Rattle.sheet.specs.Sheet.{InSheet};
-ghost use Rattle.layers.specs.declared.mark.Mark.{Mark as AnyMark};
+ghost use Rattle.sheet.specs.declared.mark.Mark.{Mark as AnyMark};
 ghost use Rattle.qroot2.specs.Dir.{IsMiddle};
 ghost use Rattle.plane.specs.Sides.{IsOnLine};
 ghost use Rattle.edits.specs.Ends.{AreJoined};
 ghost use Rattle.edits.specs.Triangles.{IsIncentre, IsFootBetween};
 ghost use Rattle.edits.specs.RabbitEar.{AreNotThree, AreAllJoined, IsNoMolecule, EarOf};
-ghost use Rattle.edits.specs.Foldable.{HasSides, HasOddTurn, IsFoldable};
+ghost use Rattle.edits.specs.Foldable.{HasSides, HasOddTurn, IsFoldable, IsMolecule};
 
 use crate::EditBad;
-use plane::{Point, Seg, cross_lines, in_sheet, is_same_point, side};
+use plane::{Point, Seg, are_in_sheet, cross_lines, in_sheet, is_same_point, side};
 use qroot2::{Dir, Sign};
+use sheet::Sheet;
 
 /// The directions of the sides of a triangle, one after another.
 #[derive(Clone, Copy)]
@@ -38,13 +39,13 @@ pub(crate) struct Triangle {
 impl Triangle {
     /// The triangle of three points of the sheet, each two joined by one of the sixteen directions,
     /// not on one line, with angles that can be halved. What remains are the right isosceles ones.
-    pub(crate) fn of(p: &Point, q: &Point, r: &Point) -> Result<Triangle, EditBad>
+    pub(crate) fn of(sheet: &Sheet, p: &Point, q: &Point, r: &Point) -> Result<Triangle, EditBad>
         ensures corners { IfOk result (λ t. (t.p ≡ p.now) × (t.q ≡ q.now) × (t.r ≡ r.now)) }
-        ensures foldable { IfOk result (λ t. IsFoldable t.p t.q t.r) }
+        ensures foldable { IfOk result (λ t. IsFoldable sheet.now t.p t.q t.r) }
         ensures sides { IfOk result (λ t. HasSides t.p t.q t.r t.sides.first t.sides.second t.sides.third) }
-        ensures err { IfErr result (λ e. (mark : AnyMark) → EarOf mark p.now q.now r.now (Err e)) }
+        ensures err { IfErr result (λ e. (mark : AnyMark) → EarOf sheet.now mark p.now q.now r.now (Err e)) }
     {
-        let sides = foldable_sides(p, q, r)?;
+        let sides = foldable_sides(sheet, p, q, r)?;
         Ok(Triangle {
             p: *p,
             q: *q,
@@ -56,7 +57,7 @@ impl Triangle {
     /// The incentre, where the bisectors of the first two corners meet. None where it cannot be
     /// held.
     pub(crate) fn incentre(&self) -> Option<Point>
-        requires foldable { IsFoldable self.now.p self.now.q self.now.r }
+        requires molecule { IsMolecule self.now.p self.now.q self.now.r }
         requires sides { HasSides self.now.p self.now.q self.now.r self.now.sides.first self.now.sides.second self.now.sides.third }
         ensures some { IfSome result (IsIncentre self.now.p self.now.q self.now.r) }
         ensures canonical { IfSome result IsPointCanonical }
@@ -89,12 +90,12 @@ fn bisector(begins: Dir, ends: Dir) -> Dir
 
 /// The sides of a triangle that can be folded into a rabbit ear: three points of the sheet, each
 /// two joined by one of the sixteen directions, not on one line, with angles that can be halved.
-fn foldable_sides(p: &Point, q: &Point, r: &Point) -> Result<Sides, EditBad>
-    ensures foldable { IfOk result (λ _. IsFoldable p.now q.now r.now) }
+fn foldable_sides(sheet: &Sheet, p: &Point, q: &Point, r: &Point) -> Result<Sides, EditBad>
+    ensures foldable { IfOk result (λ _. IsFoldable sheet.now p.now q.now r.now) }
     ensures sides { IfOk result (λ s. HasSides p.now q.now r.now s.first s.second s.third) }
-    ensures err { IfErr result (λ e. (mark : AnyMark) → EarOf mark p.now q.now r.now (Err e)) }
+    ensures err { IfErr result (λ e. (mark : AnyMark) → EarOf sheet.now mark p.now q.now r.now (Err e)) }
 {
-    if !are_in_sheet(p, q, r) {
+    if !are_three_in(sheet, p, q, r) {
         return Err(EditBad::Outside);
     }
     if are_not_three(p, q, r) {
@@ -113,10 +114,10 @@ fn foldable_sides(p: &Point, q: &Point, r: &Point) -> Result<Sides, EditBad>
 }
 
 /// Whether three points are in the sheet.
-fn are_in_sheet(p: &Point, q: &Point, r: &Point) -> bool
-    ensures { IsTrue result ↔ (InSheet p.now × InSheet q.now × InSheet r.now) }
+fn are_three_in(sheet: &Sheet, p: &Point, q: &Point, r: &Point) -> bool
+    ensures { IsTrue result ↔ (InSheet sheet.now p.now × InSheet sheet.now q.now × InSheet sheet.now r.now) }
 {
-    in_sheet(p) && in_sheet(q) && in_sheet(r)
+    are_in_sheet(sheet, p, q) && in_sheet(sheet, r)
 }
 
 /// Whether two of three points are one.

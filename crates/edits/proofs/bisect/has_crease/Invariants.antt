@@ -5,4 +5,4 @@ use Rattle.edits.specs.Rays.{RunsAlong, IsCrease}
 use Rattle.edits.proofs.bisect.has_crease.Given as goal
 
 abbrev pub invariant-loop-crease : goal.invariant-loop-crease
-invariant-loop-crease l = (done : List ExactCrease) × (done ++ l.crease-iterator ≡ l.pattern) × ((s : ExactSegment) → IsCrease done s → ¬ RunsAlong l.at l.dir s)
+invariant-loop-crease l = (done : List ExactCrease) × (done ++ l.crease-iterator ≡ l.pattern.creases) × ((s : ExactSegment) → IsCrease done s → ¬ RunsAlong l.at l.dir s)

@@ -11,17 +11,17 @@ use Rattle.edits.proofs.bisect.has_side.Goals as goal
 pub loop-side-preserved : goal.loop-side-preserved
 loop-side-preserved c = (
   c.loop-side.invariant.0,
-  none_more c.args.at.now c.args.dir sides c.loop-side.side-index c.side-item.result c.loop-side-test.true
+  none_more c.args.at.now c.args.dir (sides c.args.sheet.now) c.loop-side.side-index c.side-item.result c.loop-side-test.true
       (subst (λ (xs : List ExactSegment). c.side-item.result ≡ get_or xs c.loop-side.side-index c.side-item.result) c.sheet_sides-sides.ensures c.side-item.is)
       c.loop-side.invariant.1 (λ runs. fails c.runs_along.ensures c.if-runs_along.false (subst (RunsAlong c.args.at.now c.args.dir) c.side-item.is runs)),
 )
 
 pub returns-then-runs_along : goal.returns-then-runs_along
-returns-then-runs_along c = answers_yes ((s : ExactSegment) × Contains sides s × RunsAlong c.args.at.now c.args.dir s)
-    (some_here c.args.at.now c.args.dir sides c.loop-side.side-index c.side-item.result c.loop-side-test.true
+returns-then-runs_along c = answers_yes ((s : ExactSegment) × Contains (sides c.args.sheet.now) s × RunsAlong c.args.at.now c.args.dir s)
+    (some_here c.args.at.now c.args.dir (sides c.args.sheet.now) c.loop-side.side-index c.side-item.result c.loop-side-test.true
     (subst (λ (xs : List ExactSegment). c.side-item.result ≡ get_or xs c.loop-side.side-index c.side-item.result) c.sheet_sides-sides.ensures c.side-item.is)
     (subst (RunsAlong c.args.at.now c.args.dir) (sym c.side-item.is) (c.runs_along.ensures.0 c.if-runs_along.true)))
 
 pub returns : goal.returns
-returns c = answers_no ((s : ExactSegment) × Contains sides s × RunsAlong c.args.at.now c.args.dir s)
-    (λ h. none_of_all c.args.at.now c.args.dir sides c.loop-side.side-index c.loop-side-test.false c.loop-side.invariant.1 h.0 h.1 h.2)
+returns c = answers_no ((s : ExactSegment) × Contains (sides c.args.sheet.now) s × RunsAlong c.args.at.now c.args.dir s)
+    (λ h. none_of_all c.args.at.now c.args.dir (sides c.args.sheet.now) c.loop-side.side-index c.loop-side-test.false c.loop-side.invariant.1 h.0 h.1 h.2)

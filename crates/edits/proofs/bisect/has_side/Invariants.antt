@@ -6,4 +6,4 @@ use Rattle.edits.specs.Rays.{RunsAlong}
 use Rattle.edits.proofs.bisect.has_side.Given as goal
 
 abbrev pub invariant-loop-side : goal.invariant-loop-side
-invariant-loop-side l = (l.side-items ≡ sides) × ((s : ExactSegment) → Contains (take l.side-index sides) s → ¬ RunsAlong l.at l.dir s)
+invariant-loop-side l = (l.side-items ≡ sides l.sheet) × ((s : ExactSegment) → Contains (take l.side-index (sides l.sheet)) s → ¬ RunsAlong l.at l.dir s)

@@ -5,4 +5,4 @@ use Rattle.edits.specs.Sights.{Sees}
 use Rattle.edits.proofs.extend.sides_met.Given as goal
 
 abbrev pub invariant-loop-side : goal.invariant-loop-side
-invariant-loop-side l = (l.side-items ≡ sides) × Sees l.at l.dir (Contains (take l.side-index sides)) l.seen
+invariant-loop-side l = (l.side-items ≡ sides l.sheet) × Sees l.at l.dir (Contains (take l.side-index (sides l.sheet))) l.seen

@@ -1,6 +1,9 @@
-use Rattle.std.proofs.Common.{◌≡◌, ◌++◌}
-use Rattle.edits.specs.Flip.{flipped}
+use Rattle.std.proofs.Common.{◌≡◌, ◌++◌, List}
+use Rattle.sheet.specs.Pattern.{ExactCrease}
+use Rattle.creases.specs.Standing.{AreStanding}
+use Rattle.edits.proofs.Flipping.{AreHalf}
 use Rattle.edits.proofs.flip.flipped_draft.Given as goal
 
-abbrev pub invariant-loop-seg : goal.invariant-loop-seg
-invariant-loop-seg l = l.draft ++ flipped l.seg-iterator ≡ flipped l.pattern
+abbrev pub invariant-loop-crease : goal.invariant-loop-crease
+invariant-loop-crease l =
+    (done : List ExactCrease) × (done ++ l.crease-iterator ≡ l.pattern.creases) × AreHalf done l.crease-iterator l.draft.creases × AreStanding l.draft.creases × (l.draft.pattern ≡ l.pattern)

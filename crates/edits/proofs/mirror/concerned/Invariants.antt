@@ -5,4 +5,4 @@ use Rattle.edits.proofs.KeptCreases.{AreKept}
 use Rattle.edits.proofs.mirror.concerned.Given as goal
 
 abbrev pub invariant-loop-crease : goal.invariant-loop-crease
-invariant-loop-crease l = (done : List ExactCrease) × (done ++ l.crease-iterator ≡ l.pattern) × AreKept (λ f. IsConcerned l.at l.dir f.seg) done l.concerned.items
+invariant-loop-crease l = (done : List ExactCrease) × (done ++ l.crease-iterator ≡ l.pattern.creases) × AreKept (λ f. IsConcerned l.at l.dir f.seg) done l.concerned.items

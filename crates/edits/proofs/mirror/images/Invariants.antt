@@ -7,6 +7,6 @@ use Rattle.edits.proofs.mirror.images.Given as goal
 
 abbrev pub invariant-loop-crease : goal.invariant-loop-crease
 invariant-loop-crease l = record {
-  images : ForEach (ImageOf l.at l.dir) (take l.crease-index l.creases) (Ok l.images.items);
-  keys : All (λ f. IsKey f.seg) l.images.items;
+  images : ForEach (ImageOf l.sheet l.at l.dir) (take l.crease-index l.creases) (Ok l.images.items);
+  keys : All (λ f. IsKey l.sheet f.seg) l.images.items;
 }

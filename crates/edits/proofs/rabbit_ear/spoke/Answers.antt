@@ -11,5 +11,5 @@ pub returns-clause-key : goal.returns-clause-key
 returns-clause-key c =
     let s = c.unwrap-seg.result in
     let held = IfOk-at_ok IsHeld c.unwrap-seg.ensures c.new.ensures.held in
-    inner_key s c.args.from.now c.args.centre.now (IfOk-at_ok (λ (t : ExactSegment). IsSegment t × HasEnds t c.args.from.now c.args.centre.now) c.unwrap-seg.ensures c.new.ensures.ok)
+    inner_key c.args.sheet.now c.w-width.ensures.sheet s c.args.from.now c.args.centre.now (IfOk-at_ok (λ (t : ExactSegment). IsSegment t × HasEnds t c.args.from.now c.args.centre.now) c.unwrap-seg.ensures c.new.ensures.ok)
     held.from held.to c.requires.from c.requires.centre

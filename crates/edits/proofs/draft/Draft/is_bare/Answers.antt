@@ -14,4 +14,4 @@ told b n xs P e l i = (
 pub returns : goal.returns
 returns c =
     let list = c.in_ok-overlapped.field-0 in
-    told c.is_empty.result list.len list.items _ c.is_empty.ensures (sym list.ok.0) (bare_where_empty c.args.self.now list.items c.args.seg.now c.in_ok-overlapped.ensures.members)
+    told c.is_empty.result list.len list.items _ c.is_empty.ensures (sym list.ok.0) (bare_where_empty c.args.self.now.creases list.items c.args.seg.now c.in_ok-overlapped.ensures.members)

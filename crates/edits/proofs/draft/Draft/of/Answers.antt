@@ -1,7 +1,9 @@
-use Rattle.pattern.proofs.Fronts.{taken_pattern}
+use Rattle.edits.specs.Beside.{put_all, leave_all}
+use Rattle.edits.proofs.Beside.{none_beside}
 use Rattle.edits.proofs.draft.Draft.of.Goals as goal
 
-pub append-requires : goal.append-requires
-append-requires c =
-    let p = taken_pattern c.args.pattern.now c.loop-crease.draft c.loop-crease.crease-iterator c.next.new.self c.in-Some.crease c.creases-crease-items.ensures.pattern c.loop-crease.invariant c.in-Some.ensures.steps in
-    record { keys = p.keys; ordered = p.ordered; apart = p.apart }
+pub invariant_of-result : goal.invariant_of-result
+invariant_of-result c = rw (c.new.ensures, c.new-2.ensures) (none_beside c.args.pattern.now c.len-len.ensures.pattern)
+
+pub returns-clause-same : goal.returns-clause-same
+returns-clause-same c = λ i. record { pattern = c.args.pattern.now; creases = put_all (c.new-2.ensures i) (leave_all (c.new.ensures i) c.args.pattern.now.creases) }

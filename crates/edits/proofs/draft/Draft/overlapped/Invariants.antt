@@ -1,9 +1,7 @@
-use Rattle.std.proofs.Common.{length}
-use Rattle.edits.proofs.ReachedLists.{AreMet}
+use Rattle.std.specs.Prelude.{Contains}
+use Rattle.exact.specs.Plane.{Overlap}
+use Rattle.edits.proofs.Gathered.{AreGathered}
 use Rattle.edits.proofs.draft.Draft.overlapped.Given as goal
 
-abbrev pub invariant-loop-place : goal.invariant-loop-place
-invariant-loop-place l = AreMet l.initial.before l.seg l.before l.list.items
-
-abbrev pub decreases-loop-place : goal.decreases-loop-place
-decreases-loop-place l = length l.before
+abbrev pub invariant-loop-crease : goal.invariant-loop-crease
+invariant-loop-crease l = AreGathered (λ f. Contains l.self.creases f × Overlap f.seg l.seg) (λ f. Unit {0}) l.list.items l.crease-iterator

@@ -2,10 +2,10 @@ use Rattle.std.proofs.Common.{◌≡◌, ◌≢◌, Bool, true, false, sym, subs
 use denote.Enum.Bare.{sameb, same_true}
 use Rattle.exact.specs.Plane.{ExactPoint, ExactSegment}
 use Rattle.sheet.specs.Pattern.{ExactCrease}
-use Rattle.sheet.specs.declared.Colour.{Colour}
+use Rattle.sheet.specs.declared.colour.Colour.{Colour}
 use Rattle.sheet.specs.contracts.Colour.{the_type}
 use Rattle.geometry.specs.Meeting.{IsLater, IsEarlier}
-use Rattle.pattern.proofs.Members.{colour_itself}
+use Rattle.creases.proofs.callers.Members.{colour_itself}
 use Rattle.edits.specs.Pieces.{IsRecoloured, Replaced}
 use Rattle.edits.proofs.CutPieces.{Put, if_ok}
 use Rattle.edits.proofs.PaintPieces.{AreShared, kept_replaced, shared_segment, common_may, painted_replaced}
@@ -26,30 +26,30 @@ shared t s u a b d e lo hi v i j k l from to = record {
 pub returns-then-eq-clause-painted : goal.returns-then-eq-clause-painted
 returns-then-eq-clause-painted c =
     let t = c.args.crease.now in
-    kept_replaced c.args.self.now t c.args.seg.now c.args.colour c.requires (same_colour c.crease.inside.colour c.args.colour t.colour c.eq.result (ap (λ (f : ExactCrease). f.colour) c.crease.view_is) c.eq.ensures c.if-eq.true)
+    kept_replaced c.args.self.now.creases t c.args.seg.now c.args.colour c.requires (same_colour c.crease.inside.colour c.args.colour t.colour c.eq.result (ap (λ (f : ExactCrease). f.colour) c.crease.view_is) c.eq.ensures c.if-eq.true)
 
 pub part-requires : goal.part-requires
 part-requires c =
     let t = c.args.crease.now in
     let s = c.args.seg.now in
-    λ _. shared_segment c.args.self.now t s c.later-from.result c.earlier-to.result c.requires
+    λ _. shared_segment c.args.self.now.creases t s c.later-from.result c.earlier-to.result c.requires
     (shared t s c.crease.inside.seg c.p.result c.p-2.result c.q.result c.q-2.result c.later-from.result c.earlier-to.result (ap (λ (f : ExactCrease). f.seg) c.crease.view_is) c.p.ensures.value c.p-2.ensures.value c.q.ensures.value c.q-2.ensures.value c.later-from.ensures c.earlier-to.ensures)
 
 pub put_part-requires-clause-may : goal.put_part-requires-clause-may
 put_part-requires-clause-may c =
     let t = c.args.crease.now in
     let s = c.args.seg.now in
-    common_may c.args.self.now c.cut.new.self t s c.later-from.result c.earlier-to.result c.part.result c.requires
+    common_may c.args.self.now.creases c.cut.new.self.creases t s c.later-from.result c.earlier-to.result c.part.result c.requires
     (shared t s c.crease.inside.seg c.p.result c.p-2.result c.q.result c.q-2.result c.later-from.result c.earlier-to.result (ap (λ (f : ExactCrease). f.seg) c.crease.view_is) c.p.ensures.value c.p-2.ensures.value c.q.ensures.value c.q-2.ensures.value c.later-from.ensures c.earlier-to.ensures)
     c.in_ok-cut.ensures.cut c.part.ensures
 
 pub returns-clause-painted : goal.returns-clause-painted
 returns-clause-painted c =
-    let old = c.args.self.now in
+    let old = c.args.self.now.creases in
     let t = c.args.crease.now in
     let s = c.args.seg.now in
-    let mid = c.cut.new.self in
-    let new = c.put_part.new.self in
+    let mid = c.cut.new.self.creases in
+    let new = c.put_part.new.self.creases in
     if_ok c.put_part.result (Put mid c.part.result c.args.colour new) (Replaced (IsRecoloured s c.args.colour t) old t new)
     (painted_replaced old mid new t s c.later-from.result c.earlier-to.result c.args.colour c.part.result c.requires
     (other_colour c.crease.inside.colour c.args.colour t.colour c.eq.result (ap (λ (f : ExactCrease). f.colour) c.crease.view_is) c.eq.ensures c.if-eq.false)

@@ -1,10 +1,11 @@
-use Rattle.std.proofs.Common.{take}
-use Rattle.edits.specs.Drafts.{IsDraft}
+use Rattle.std.proofs.Common.{◌≡◌, take}
+use Rattle.creases.specs.Standing.{AreStanding}
 use Rattle.edits.specs.Pieces.{IsRecoloured, AllReplaced}
 use Rattle.edits.proofs.draft.Draft.paint_all.Given as goal
 
 abbrev pub invariant-loop-crease : goal.invariant-loop-crease
 invariant-loop-crease l = record {
-  replaced : AllReplaced (IsRecoloured l.seg l.colour) l.fn.self (take l.crease-index l.overlapped) l.self;
-  draft : IsDraft l.self;
+  replaced : AllReplaced (IsRecoloured l.seg l.colour) l.fn.self.creases (take l.crease-index l.overlapped) l.self.creases;
+  standing : AreStanding l.self.creases;
+  pattern : l.self.pattern ≡ l.fn.self.pattern;
 }
