@@ -1,6 +1,7 @@
 -- Projects: a pattern, how often it was changed, and the deltas that lead to it and on from it.
 use Rattle.std.specs.Prelude.{◌≡◌, ℕ, ◌≤◌, ◌^◌, List, [], ◌∷◌}
-use Rattle.sheet.specs.Pattern.{ExactCrease, IsPattern}
+use Rattle.sheet.specs.Sheet.{ExactSheet}
+use Rattle.sheet.specs.Pattern.{ExactPattern, IsPattern}
 use Rattle.pattern.specs.Deltas.{Fits, Leads}
 use Rattle.pattern.specs.declared.delta.Delta.{Delta}
 use Rattle.history.specs.Histories.{ExactHistory, IsHistory}
@@ -8,21 +9,21 @@ use Rattle.history.specs.Histories.{ExactHistory, IsHistory}
 -- The number of steps that were taken, the present pattern, and the deltas of the past and the future.
 pub record ExactProject : Type 0 where
   pub rev : ℕ
-  pub pattern : List ExactCrease
+  pub pattern : ExactPattern
   pub history : ExactHistory
 
 -- each delta fits the pattern where it stands and leads to the next one
-abbrev pub Walk : List ExactCrease → List Delta → List ExactCrease → Type 0
+abbrev pub Walk : ExactPattern → List Delta → ExactPattern → Type 0
 Walk from [] to = from ≡ to
-Walk from (delta ∷ deltas) to = Fits from delta × ((next : List ExactCrease) × Leads from delta next × Walk next deltas to)
+Walk from (delta ∷ deltas) to = Fits from delta × ((next : ExactPattern) × Leads from delta next × Walk next deltas to)
 
 -- the deltas lead from some pattern to this one
-abbrev pub IsPast : List Delta → List ExactCrease → Type 0
-IsPast deltas now = (first : List ExactCrease) × IsPattern first × Walk first deltas now
+abbrev pub IsPast : List Delta → ExactPattern → Type 0
+IsPast deltas now = (first : ExactPattern) × IsPattern first × Walk first deltas now
 
 -- the deltas lead from this pattern to some other
-abbrev pub IsFuture : List ExactCrease → List Delta → Type 0
-IsFuture now deltas = (last : List ExactCrease) × Walk now deltas last
+abbrev pub IsFuture : ExactPattern → List Delta → Type 0
+IsFuture now deltas = (last : ExactPattern) × Walk now deltas last
 
 -- the greatest rev
 abbrev pub last_rev : ℕ
@@ -36,6 +37,7 @@ pub record IsProject (project : ExactProject) : Type 0 where
   pub past : IsPast project.history.past project.pattern
   pub future : IsFuture project.pattern project.history.future
 
--- the project without creases and without steps
-abbrev pub empty_project : ExactProject
-empty_project = record { rev = 0; pattern = []; history = record { past = []; future = [] } }
+-- the project on a sheet without creases and without steps
+abbrev pub empty_project : ExactSheet → ExactProject
+empty_project sheet =
+    record { rev = 0; pattern = record { sheet = sheet; creases = [] }; history = record { past = []; future = [] } }

@@ -1,6 +1,6 @@
 -- Steps of a project: a delta that is taken, and the undoing and redoing of one.
-use Rattle.std.specs.Prelude.{◌≡◌, ◌+◌, ◌<◌, List, length}
-use Rattle.sheet.specs.Pattern.{ExactCrease}
+use Rattle.std.specs.Prelude.{◌≡◌, ◌+◌, ◌<◌, length}
+use Rattle.sheet.specs.Pattern.{ExactPattern}
 use Rattle.pattern.specs.Deltas.{Fits, Leads, inverse_of}
 use Rattle.pattern.specs.declared.delta.Delta.{Delta}
 use Rattle.history.specs.Histories.{pushed, IsBack, IsLast, IsFirst}
@@ -41,9 +41,9 @@ pub record Stepped (before : ExactProject) (step : Step) (after : ExactProject) 
   pub leads : StepLeads before step after
 
 -- the pattern to which the last delta of the past leads back
-abbrev pub LeadsBack : ExactProject → List ExactCrease → Type 0
+abbrev pub LeadsBack : ExactProject → ExactPattern → Type 0
 LeadsBack project earlier = (delta : Delta) × IsLast project.history.past delta × Leads project.pattern (inverse_of delta) earlier
 
 -- the pattern to which the next delta of the future leads
-abbrev pub LeadsForth : ExactProject → List ExactCrease → Type 0
+abbrev pub LeadsForth : ExactProject → ExactPattern → Type 0
 LeadsForth project later = (delta : Delta) × IsFirst project.history.future delta × Leads project.pattern delta later

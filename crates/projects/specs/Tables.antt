@@ -3,6 +3,7 @@ use Rattle.std.specs.Prelude.{◌≡◌, ℕ, ◌<◌, List, All, Option, Some, 
 use Rattle.std.specs.BTreeMap.{is_at, insert_entry}
 use Rattle.std.specs.Map.{lookup, keys_of, values_of}
 use Rattle.std.specs.List.Sorted.{IsStrictlySortedBy}
+use Rattle.sheet.specs.Sheet.{ExactSheet}
 use Rattle.projects.specs.Names.{IsName, name_cmp}
 use Rattle.projects.specs.Projects.{ExactProject, IsProject, empty_project, last_rev}
 use Rattle.projects.specs.Steps.{StepFits, Stepped}
@@ -29,11 +30,12 @@ project_at tables name = lookup (is_at (name_cmp name)) tables
 abbrev pub with_project : Tables → List ℕ → ExactProject → Tables
 with_project tables name project = insert_entry name_cmp tables name project
 
--- an empty project comes under a new name, and otherwise all stays
-abbrev pub Created : {E : Type 0} → Tables → List ℕ → Result Bool E → Tables → Type 0
-Created before name (Ok true) after = (project_at before name ≡ None) × (after ≡ with_project before name empty_project)
-Created before name (Ok false) after = IsSome (project_at before name) × (after ≡ before)
-Created before name (Err e) after = after ≡ before
+-- an empty project on the sheet comes under a new name, and otherwise all stays
+abbrev pub Created : {E : Type 0} → Tables → List ℕ → ExactSheet → Result Bool E → Tables → Type 0
+Created before name sheet (Ok true) after =
+    (project_at before name ≡ None) × (after ≡ with_project before name (empty_project sheet))
+Created before name sheet (Ok false) after = IsSome (project_at before name) × (after ≡ before)
+Created before name sheet (Err e) after = after ≡ before
 
 -- The project under the name can take the step.
 pub record CanCommit (tables : Tables) (name : List ℕ) (step : Step) : Type 0 where

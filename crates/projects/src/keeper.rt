@@ -5,6 +5,7 @@ ghost use Rattle.projects.specs.Keeping.{Tells, FailsWhereRose, path_after};
 
 use crate::{Name, Project, Step};
 use ports::NoMemory;
+use sheet::Sheet;
 use std::alloc::Global;
 
 /// Why a keeper's call gave no answer.
@@ -68,10 +69,10 @@ pub trait Keeper {
         ensures cause { FailsWhereRose (faults self.old) (faults self.new) result }
         ensures path { keeper_path self.new ≡ keeper_path self.old };
 
-    /// Puts an empty project at rev 0 under a new name. It answers false, and changes nothing, exactly
-    /// where the name is there.
-    fn create(&mut self, alloc: Global, name: &Name) -> Result<bool, KeeperEnd>
-        ensures told { Tells (tables self.old) (is_clean self.new) (tables self.new) (λ before after. Created before name.now result after) }
+    /// Puts an empty project on this sheet at rev 0 under a new name. It answers false, and changes
+    /// nothing, exactly where the name is there.
+    fn create(&mut self, alloc: Global, name: &Name, sheet: Sheet) -> Result<bool, KeeperEnd>
+        ensures told { Tells (tables self.old) (is_clean self.new) (tables self.new) (λ before after. Created before name.now sheet result after) }
         ensures clean { is_clean self.new → is_clean self.old }
         ensures cause { FailsWhereRose (faults self.old) (faults self.new) result }
         ensures path { keeper_path self.new ≡ keeper_path self.old };

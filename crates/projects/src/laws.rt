@@ -2,7 +2,7 @@
 //! what holds.
 ghost use Rattle.std.specs.Prelude.{◌≡◌, ◌≢◌, ◌↔◌, ℕ, List, [], ◌∷◌, ◌++◌, Some};
 ghost use Rattle.pattern.specs.Deltas.{Fits, Leads, inverse_of};
-ghost use Rattle.sheet.specs.Pattern.{ExactCrease, IsPattern};
+ghost use Rattle.sheet.specs.Pattern.{ExactPattern, IsPattern};
 ghost use Rattle.pattern.specs.declared.delta.Delta.{Delta as AnyDelta};
 ghost use Rattle.projects.specs.Projects.{ExactProject, IsProject, IsPast};
 ghost use Rattle.projects.specs.Steps.{Stepped};
@@ -29,7 +29,7 @@ pub fn redo_gives_back()
 /// A past leads to a pattern exactly where the inverse of its last delta fits there and leads to one
 /// to which the others lead.
 pub fn past_is_taken_back()
-    ensures { (deltas : List AnyDelta) (delta : AnyDelta) (now : List ExactCrease) → IsPattern now → IsPast (deltas ++ delta ∷ []) now ↔ (Fits now (inverse_of delta) × ((earlier : List ExactCrease) × Leads now (inverse_of delta) earlier × IsPast deltas earlier)) }
+    ensures { (deltas : List AnyDelta) (delta : AnyDelta) (now : ExactPattern) → IsPattern now → IsPast (deltas ++ delta ∷ []) now ↔ (Fits now (inverse_of delta) × ((earlier : ExactPattern) × Leads now (inverse_of delta) earlier × IsPast deltas earlier)) }
 {}
 
 /// Tables with a project under a name have it there, and all others as they were.

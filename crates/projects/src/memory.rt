@@ -6,7 +6,8 @@ ghost use Rattle.projects.specs.Memory.{FailsByNumber, CountsOther, CountsCommit
 
 use crate::tables::{names_in, project_in, put_project, take_step};
 use crate::{Keeper, KeeperEnd, Name, Project, Step};
-use ports::NoMemory;
+use ports::{Calls, NoMemory};
+use sheet::Sheet;
 use std::alloc::Global;
 use std::collections::BTreeMap;
 use std::marker::Model;
@@ -16,11 +17,9 @@ use std::marker::Model;
 pub struct MemKeeper {
     tables: BTreeMap<Name, Project>,
     path: Option<Vec<u8>>,
-    fail_commits: Vec<u64>,
-    fail_others: Vec<u64>,
-    commits: u64,
-    others: u64,
-    faults: u64,
+    commits: Calls,
+    others: Calls,
+    faults: u128,
 }
 
 impl Model for MemKeeper {
@@ -33,10 +32,10 @@ impl Model for MemKeeper {
     ghost view = { λ s. record {
       tables = s.tables.entries;
       path = option_map (λ p. p.items) s.path;
-      fail_commits = s.fail_commits.items;
-      fail_others = s.fail_others.items;
-      commits = s.commits;
-      others = s.others;
+      fail_commits = s.commits.fail;
+      fail_others = s.others.fail;
+      commits = s.commits.made;
+      others = s.others.made;
       faults = s.faults;
     } };
 
@@ -60,10 +59,8 @@ impl MemKeeper {
         MemKeeper {
             tables: BTreeMap::new(alloc),
             path: None,
-            fail_commits,
-            fail_others,
-            commits: 0,
-            others: 0,
+            commits: Calls::new(fail_commits),
+            others: Calls::new(fail_others),
             faults: 0,
         }
     }
@@ -90,8 +87,7 @@ impl MemKeeper {
         ensures numbers { FailsByNumber self.old.fail_others self.old.others self.old.faults self.new.faults result }
         ensures memory { result ≢ Err KeeperEnd.NoMemory }
     {
-        self.others = self.others.saturating_add(1);
-        if self.fail_others.contains(&self.others) {
+        if self.others.next_fails() {
             self.faults = self.faults.saturating_add(1);
             return Err(KeeperEnd::Failed);
         }
@@ -106,8 +102,7 @@ impl MemKeeper {
         ensures counts { CountsCommit self.old self.new }
         ensures numbers { FailsByNumber self.old.fail_commits self.old.commits self.old.faults self.new.faults result }
     {
-        self.commits = self.commits.saturating_add(1);
-        if self.fail_commits.contains(&self.commits) {
+        if self.commits.next_fails() {
             self.faults = self.faults.saturating_add(1);
             return Err(KeeperEnd::Failed);
         }
@@ -134,7 +129,7 @@ impl Keeper for MemKeeper {
         ensures numbers { FailsByNumber self.old.fail_others self.old.others self.old.faults self.new.faults result }
     {
         let Ok(text) = Vec::from_slice(alloc, path.as_bytes()) else {
-            self.others = self.others.saturating_add(1);
+            let _fails = self.others.next_fails();
             return Err(KeeperEnd::NoMemory);
         };
         self.path = Some(text);
@@ -165,10 +160,10 @@ impl Keeper for MemKeeper {
         Ok(names_in(alloc, &self.tables)?)
     }
 
-    fn create(&mut self, alloc: Global, name: &Name) -> Result<bool, KeeperEnd>
+    fn create(&mut self, alloc: Global, name: &Name, sheet: Sheet) -> Result<bool, KeeperEnd>
         ensures old { IsTables self.old.tables }
         ensures new { IsTables self.new.tables }
-        ensures created { Created self.old.tables name.now result self.new.tables }
+        ensures created { Created self.old.tables name.now sheet result self.new.tables }
         ensures path { self.new.path ≡ self.old.path }
         ensures cause { FailsWhereRose self.old.faults self.new.faults result }
         ensures counts { CountsOther self.old self.new }
@@ -178,7 +173,7 @@ impl Keeper for MemKeeper {
         if self.tables.contains_key(name) {
             return Ok(false);
         }
-        put_project(&mut self.tables, name.copy(), Project::empty(alloc))?;
+        put_project(&mut self.tables, name.copy(), Project::empty(alloc, sheet))?;
         Ok(true)
     }
 

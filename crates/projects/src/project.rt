@@ -8,6 +8,7 @@ use crate::Step;
 use history::History;
 use pattern::{Delta, Pattern};
 use ports::NoMemory;
+use sheet::Sheet;
 use std::alloc::Global;
 use std::marker::Model;
 
@@ -64,12 +65,12 @@ impl Project {
         }))
     }
 
-    /// The project without creases and without steps. It takes no memory.
-    pub(crate) fn empty(alloc: Global) -> Project
-        ensures empty { result ≡ empty_project }
+    /// The project on a sheet without creases and without steps. It takes no memory.
+    pub(crate) fn empty(alloc: Global, sheet: Sheet) -> Project
+        ensures empty { result ≡ empty_project sheet }
         ensures project { IsProject result }
     {
-        let pattern = Pattern::empty(alloc);
+        let pattern = Pattern::empty(alloc, sheet);
         // no creases are a pattern
         let _none = pattern.len();
         Project {
@@ -223,11 +224,10 @@ fn is_past(alloc: Global, history: &History, pattern: &Pattern) -> Result<bool, 
     let mut rest = history.copy(alloc)?;
     let mut now = pattern.copy(alloc)?;
     while let Some(delta) = rest.last() {
-        let inverse = delta.copy(alloc)?.inverse();
-        if !now.fits(&inverse) {
-            return Ok(false);
+        match now.retreat(delta)? {
+            Some(earlier) => now = earlier,
+            None => return Ok(false),
         }
-        now = now.applied(alloc, &inverse)?;
         rest.back()?;
     }
     Ok(true)
@@ -240,10 +240,10 @@ fn is_future(alloc: Global, pattern: &Pattern, history: &History) -> Result<bool
     let mut rest = history.copy(alloc)?;
     let mut now = pattern.copy(alloc)?;
     while let Some(delta) = rest.next() {
-        if !now.fits(delta) {
-            return Ok(false);
+        match now.advance(delta)? {
+            Some(later) => now = later,
+            None => return Ok(false),
         }
-        now = now.applied(alloc, delta)?;
         rest.forth()?;
     }
     Ok(true)

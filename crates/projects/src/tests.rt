@@ -3,6 +3,7 @@
 use crate::{Keeper, KeeperEnd, MemKeeper, Name, NotName, Project, Step};
 use history::History;
 use pattern::{Delta, between, pattern_bytes, read_pattern};
+use sheet::Sheet;
 use std::alloc::Global;
 use std::test::Fail;
 
@@ -16,6 +17,9 @@ const CROSSED: &[u8] = b"q2 1\nV 0,1/2 1,1/2\nM 1/2,0 1/2,1\n";
 fn delta(alloc: Global, from: &[u8], to: &[u8]) -> Result<Delta, Fail> {
     let old = read_pattern(alloc, from)?;
     let new = read_pattern(alloc, to)?;
+    if old.sheet() != new.sheet() {
+        return Err(Fail::from("two sheets"));
+    }
     Ok(between(alloc, &old, &new)?)
 }
 
@@ -89,7 +93,7 @@ fn undo<K: Keeper>(alloc: Global, keeper: &mut K, name: &Name) -> Result<bool, K
 /// A keeper with one new project, whose commits of these numbers fail.
 fn keeper(alloc: Global, name: &Name, fail: &[u64]) -> Result<MemKeeper, Fail> {
     let mut keeper = MemKeeper::new(alloc, fail.to_vec(alloc)?, Vec::new(alloc));
-    let _new = keeper.create(alloc, name)?;
+    let _new = keeper.create(alloc, name, Sheet::square())?;
     Ok(keeper)
 }
 
@@ -177,9 +181,9 @@ fn other_calls_fail_at_their_numbers(rt: HostRuntime) -> Result<(), Fail> {
     let mut keeper = MemKeeper::new(alloc, Vec::new(alloc), [1u64, 3].to_vec(alloc)?);
     let name = Name::new(b"sq")?;
     assert!(rt; keeper.attach(alloc, "p.db") == Err(KeeperEnd::Failed));
-    assert!(rt; keeper.create(alloc, &name) == Ok(true));
-    assert!(rt; keeper.create(alloc, &name) == Err(KeeperEnd::Failed));
-    assert!(rt; keeper.create(alloc, &name) == Ok(false));
+    assert!(rt; keeper.create(alloc, &name, Sheet::square()) == Ok(true));
+    assert!(rt; keeper.create(alloc, &name, Sheet::square()) == Err(KeeperEnd::Failed));
+    assert!(rt; keeper.create(alloc, &name, Sheet::square()) == Ok(false));
     Ok(())
 }
 

@@ -1,19 +1,22 @@
-use Rattle.std.proofs.Common.{ap, ◌∙◌}
-use Rattle.pattern.specs.Deltas.{inverse_of}
-use Rattle.pattern.proofs.Told.{answers_no, refuted}
+use Rattle.std.proofs.Common.{refl}
+use Rattle.pattern.specs.Deltas.{Leads, inverse_of}
+use Rattle.pattern.proofs.Told.{answers_no}
 use Rattle.projects.specs.Projects.{IsPast}
-use Rattle.projects.proofs.Walks.{past_goes_on, past_stops, both_ways}
+use Rattle.projects.proofs.Walks.{past_goes_on, past_stops, both_ways, none_refutes, some_proves, some_gives}
 use Rattle.projects.proofs.project.is_past.Goals as goal
 
-pub returns-then-not-fits : goal.returns-then-not-fits
-returns-then-not-fits c = answers_no (IsPast c.args.history.now.past c.args.pattern.now)
-    (λ h. past_stops c.loop-delta.rest.past c.in-Some.delta.now c.inverse-inverse.result c.loop-delta.now c.in-Some.ensures.some (c.inverse-inverse.ensures ∙ ap inverse_of c.in_ok-copy.ensures)
-    (refuted c.fits.result c.if-not-fits.true c.fits.ensures) (c.loop-delta.invariant.same.0 h))
+pub returns-in-None : goal.returns-in-None
+returns-in-None c = answers_no (IsPast c.args.history.now.past c.args.pattern.now)
+    (λ h. past_stops c.loop-delta.rest.past c.in-Some.delta.now (inverse_of c.in-Some.delta.now) c.loop-delta.now c.in-Some.ensures.some refl
+    (none_refutes c.in_ok-earlier.field-0 c.in-None.is c.in_ok-earlier.ensures.exactly) (c.loop-delta.invariant.same.0 h))
 
 pub loop-delta-preserved : goal.loop-delta-preserved
-loop-delta-preserved c = record {
-  pattern = c.in_ok-now-2.ensures.pattern;
-  same = both_ways c.loop-delta.invariant.same
-      (past_goes_on c.loop-delta.rest c.back.new.self c.in-Some.delta.now c.inverse-inverse.result c.loop-delta.now c.in_ok-now-2.now c.loop-delta.invariant.pattern c.in-Some.ensures.some (c.inverse-inverse.ensures ∙ ap inverse_of c.in_ok-copy.ensures)
-      (c.fits.ensures.0 c.if-not-fits.false) c.in_ok-now-2.ensures c.in_ok-back.ensures.ok);
-}
+loop-delta-preserved c =
+    let leads : Leads c.loop-delta.now (inverse_of c.in-Some.delta.now) c.in-Some-2.earlier
+    = some_gives (Leads c.loop-delta.now (inverse_of c.in-Some.delta.now)) c.in_ok-earlier.field-0 c.in-Some-2.earlier c.in-Some-2.is c.in_ok-earlier.ensures.some in
+    record {
+      pattern = leads.pattern;
+      same = both_ways c.loop-delta.invariant.same
+          (past_goes_on c.loop-delta.rest c.back.new.self c.in-Some.delta.now (inverse_of c.in-Some.delta.now) c.loop-delta.now c.in-Some-2.earlier c.loop-delta.invariant.pattern c.in-Some.ensures.some refl
+          (some_proves c.in_ok-earlier.field-0 c.in-Some-2.earlier c.in-Some-2.is c.in_ok-earlier.ensures.exactly) leads c.in_ok-back.ensures.ok);
+    }
