@@ -1,10 +1,11 @@
 -- How the text that is due, and what came of writing it, make the end of a run.
 use Rattle.std.proofs.Common.{◌≡◌, ℕ, List, ◌<◌, ◌^◌, length, inl, inr, refl, subst, sym, arith}
 use Rattle.std.specs.Prelude.{Option}
-use Rattle.sheet.specs.Pattern.{ExactCrease}
+use Rattle.sheet.specs.Pattern.{ExactPattern}
 use Rattle.ports.specs.declared.stop.Stop.TheVariants as stop
 use Rattle.subdivide.specs.Subdivision.{Answer}
-use Rattle.subdivide.specs.Refusals.{RefusesCut}
+use Rattle.ports.specs.Stops.{Refuses}
+use Rattle.subdivide.specs.CutAnswers.{IsCutAnswer}
 use Rattle.subdivide.specs.declared.edge.CutBad.{CutBad}
 use Rattle.subdivide.specs.declared.edge.CutBad.TheVariants as bad
 use Rattle.oriedit.specs.CutText.{CutText, PatternText, answer_status, refusal_text}
@@ -23,17 +24,17 @@ answer_due (Answer.CrossRange s t) = Rejected
 answer_due Answer.TooManyVertices = Rejected
 answer_due (Answer.Cut vs es) = Accepted
 
-pattern_due : (creases : List ExactCrease) (s : Status) (text : List ℕ) → PatternText creases s text → IsDue s
-pattern_due creases s text p = subst IsDue (sym p.2) (answer_due p.0)
+pattern_due : (pattern : ExactPattern) (s : Status) (text : List ℕ) → PatternText pattern s text → IsDue s
+pattern_due pattern s text p = subst IsDue (sym p.2) (answer_due p.0)
 
 pub is_due : (bytes text : List ℕ) (s : Status) → CutText bytes s text → IsDue s
 is_due bytes text s (inl p) = pattern_due p.0 s text p.2
 is_due bytes text s (inr p) = subst IsDue (sym p.2) Rejected
 
 -- a refusal of cutting is due
-pub refused : (creases : List ExactCrease) (b : CutBad) → RefusesCut creases (stop.Why b) → (text : List ℕ) → text ≡ refusal_text b → PatternText creases status.Refused text
-refused creases (bad.CrossRange s t) r text e = (Answer.CrossRange s t, r, refl, e)
-refused creases bad.TooManyVertices r text e = (Answer.TooManyVertices, r, refl, e)
+pub refused : (pattern : ExactPattern) (b : CutBad) → Refuses (IsCutAnswer pattern) (stop.Why b) → (text : List ℕ) → text ≡ refusal_text b → PatternText pattern status.Refused text
+refused pattern (bad.CrossRange s t) r text e = (Answer.CrossRange s t, r, refl, e)
+refused pattern bad.TooManyVertices r text e = (Answer.TooManyVertices, r, refl, e)
 
 wrote : (bytes text : List ℕ) (held now : Option (List ℕ)) (due : Status) → IsDue due → CutText bytes due text → Gained held now text → Answers bytes held now due
 wrote bytes text held now due Accepted t w = (text, t, w)

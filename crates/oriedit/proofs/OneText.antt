@@ -1,6 +1,6 @@
 -- One text is due for each input.
 use Rattle.std.proofs.Common.{◌≡◌, ℕ, List, ap, subst, sym, ◌∙◌, inl, inr}
-use Rattle.sheet.specs.Pattern.{ExactCrease, IsPattern}
+use Rattle.sheet.specs.Pattern.{ExactPattern, IsPattern}
 use Rattle.pattern.proofs.OneText.{one_pattern}
 use Rattle.pattern.proofs.OneRefusal.{not_refused, one_refusal}
 use Rattle.subdivide.proofs.OneAnswer.{one_answer}
@@ -8,8 +8,8 @@ use Rattle.oriedit.specs.ReplyText.{refused_text, bad_cause}
 use Rattle.oriedit.specs.CutText.{CutText, PatternText, answer_text, answer_status}
 use Rattle.oriedit.specs.declared.status.Status.{Status}
 
-of_pattern : (creases : List ExactCrease) → IsPattern creases → (s r : Status) (text other : List ℕ) → PatternText creases s text → PatternText creases r other → (s ≡ r) × (text ≡ other)
-of_pattern creases p s r text other a b = let e = one_answer creases a.0 b.0 p a.1 b.1 in (a.2 ∙ ap answer_status e ∙ sym b.2, a.3 ∙ ap answer_text e ∙ sym b.3)
+of_pattern : (pattern : ExactPattern) → IsPattern pattern → (s r : Status) (text other : List ℕ) → PatternText pattern s text → PatternText pattern r other → (s ≡ r) × (text ≡ other)
+of_pattern pattern p s r text other a b = let e = one_answer pattern a.0 b.0 p a.1 b.1 in (a.2 ∙ ap answer_status e ∙ sym b.2, a.3 ∙ ap answer_text e ∙ sym b.3)
 
 pub one_text : (bytes : List ℕ) (s r : Status) (text other : List ℕ) → CutText bytes s text → CutText bytes r other → (s ≡ r) × (text ≡ other)
 one_text bytes s r text other (inl a) (inl b) =

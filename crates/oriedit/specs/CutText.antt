@@ -1,6 +1,6 @@
 -- The text that `cut` owes for its input, and the status that it ends with.
 use Rattle.std.specs.Prelude.{◌≡◌, ℕ, ◌⊎◌, List, codes}
-use Rattle.sheet.specs.Pattern.{ExactCrease}
+use Rattle.sheet.specs.Pattern.{ExactPattern}
 use Rattle.pattern.specs.NativeReading.{IsRead, IsRefused}
 use Rattle.pattern.specs.declared.native.PatternBad.{PatternBad}
 use Rattle.subdivide.specs.Subdivision.{Answer, CutOf}
@@ -27,11 +27,11 @@ answer_status Answer.TooManyVertices = status.Refused
 answer_status (Answer.Cut vs es) = status.Ok
 
 -- what is due for a pattern
-abbrev pub PatternText : List ExactCrease → Status → List ℕ → Type 0
-PatternText creases s text = (answer : Answer) × CutOf creases answer × (s ≡ answer_status answer) × (text ≡ answer_text answer)
+abbrev pub PatternText : ExactPattern → Status → List ℕ → Type 0
+PatternText pattern s text = (answer : Answer) × CutOf pattern answer × (s ≡ answer_status answer) × (text ≡ answer_text answer)
 
 -- what is due for the bytes of the input: the answer of cutting where they are the text of a pattern, and else their refusal
 abbrev pub CutText : List ℕ → Status → List ℕ → Type 0
 CutText bytes s text =
-    ((creases : List ExactCrease) × IsRead bytes creases × PatternText creases s text)
+    ((pattern : ExactPattern) × IsRead bytes pattern × PatternText pattern s text)
     ⊎ ((bad : PatternBad) × IsRefused bytes bad × (s ≡ status.Refused) × (text ≡ refused_text (bad_cause bad)))

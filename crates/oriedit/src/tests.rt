@@ -61,6 +61,15 @@ fn creases_of_slanted_directions_meet_exactly(rt: HostRuntime) -> Result<(), Fai
     Ok(())
 }
 
+#[test]
+fn a_crease_where_a_square_would_end_is_inside_a_larger_sheet(rt: HostRuntime) -> Result<(), Fail> {
+    let input = b"q2 2 2 1\nM 1,0 1,1\n";
+    let text =
+        b"shown 0 6 7\nv 0,0\nv 0,1\nv 1,0\nv 1,1\nv 2,0\nv 2,1\ne 0 1 B\ne 0 2 B\ne 1 3 B\ne 2 3 M\ne 2 4 B\ne 3 5 B\ne 4 5 B\n";
+    assert!(rt; gives(rt.alloc(), input, Status::Ok, text)?);
+    Ok(())
+}
+
 /// Whether `cut` refuses these bytes with this text.
 fn refuses(alloc: Global, input: &[u8], text: &[u8]) -> Result<bool, Fail> {
     gives(alloc, input, Status::Refused, text)
@@ -97,6 +106,16 @@ fn each_refusal_names_its_line(rt: HostRuntime) -> Result<(), Fail> {
     assert!(rt; refuses(alloc, b"q2 1\nM 0,0 1,0\n", b"refused OnBorder line 2\n")?);
     let overlapping = b"q2 1\nM 0,1/2 3/4,1/2\nV 1/2,1/2 1,1/2\n";
     assert!(rt; refuses(alloc, overlapping, b"refused Overlap line 3\n")?);
+    Ok(())
+}
+
+#[test]
+fn a_sheet_is_named_in_one_way(rt: HostRuntime) -> Result<(), Fail> {
+    let alloc = rt.alloc();
+    assert!(rt; refuses(alloc, b"q2 2 1 1\n", b"refused Line line 1\n")?);
+    assert!(rt; refuses(alloc, b"q2 2 9 1\n", b"refused Line line 1\n")?);
+    let left = b"q2 2 2 1\nM 0,0 0,1\n";
+    assert!(rt; refuses(alloc, left, b"refused OnBorder line 2\n")?);
     Ok(())
 }
 

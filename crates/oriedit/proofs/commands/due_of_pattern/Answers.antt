@@ -1,11 +1,12 @@
 use Rattle.std.proofs.Common.{refl, subst}
 use Rattle.subdivide.specs.Subdivision.{Answer}
-use Rattle.subdivide.specs.Refusals.{RefusesCut}
+use Rattle.ports.specs.Stops.{Refuses}
+use Rattle.subdivide.specs.CutAnswers.{IsCutAnswer}
 use Rattle.oriedit.proofs.Ending.{refused}
 use Rattle.oriedit.proofs.commands.due_of_pattern.Goals as goal
 
 pub returns-in_ok-shown-in-Ok : goal.returns-in_ok-shown-in-Ok
-returns-in_ok-shown-in-Ok c = (Answer.Cut c.in-Ok.subdivision.vertices c.in-Ok.subdivision.edges, c.in-Ok.ensures.ok, refl, c.in_ok-shown-in-Ok.ensures)
+returns-in_ok-shown-in-Ok c = (Answer.Cut c.in-Ok.subdivision.vertices c.in-Ok.subdivision.edges, c.in-Ok.ensures, refl, c.in_ok-shown-in-Ok.ensures)
 
 pub returns-in_ok-refusal-in-Err-Why : goal.returns-in_ok-refusal-in-Err-Why
-returns-in_ok-refusal-in-Err-Why c = refused c.args.pattern.now c.in-Err-Why.bad (subst (RefusesCut c.args.pattern.now) c.in-Err-Why.field-0-is c.in-Err-Why.ensures.err) _ c.in_ok-refusal-in-Err-Why.ensures
+returns-in_ok-refusal-in-Err-Why c = refused c.args.pattern.now c.in-Err-Why.bad (subst (Refuses (IsCutAnswer c.args.pattern.now)) c.in-Err-Why.field-0-is c.in-Err-Why.ensures) _ c.in_ok-refusal-in-Err-Why.ensures
