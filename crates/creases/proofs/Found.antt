@@ -11,11 +11,11 @@ use Rattle.plane.specs.Segments.{IsHeld, HasCanonicalEnds}
 use Rattle.creases.specs.Creases.{Ascends}
 use Rattle.creases.specs.Segments.{creases_of, AreFound}
 use Rattle.creases.specs.Standing.{AreStanding}
-use Rattle.creases.specs.Creases.{IsFree}
+use Rattle.creases.specs.Creases.{IsFree, coloured_as}
 use Rattle.creases.proofs.SegmentChanges.{entries_ascend, taken_one, put_one}
 use Rattle.creases.proofs.callers.Members.{all_of, one_on_segment, same_list}
 use Rattle.creases.proofs.callers.Overlaps.{overlap_itself}
-use Rattle.creases.proofs.callers.Standing.{held_in, some_standing, more_standing, more_are_held}
+use Rattle.creases.proofs.callers.Standing.{held_in, some_standing, more_standing, more_are_held, recoloured_standing, recoloured_are_held}
 
 -- of two lists with the same creases
 pub free_among : (xs ys : List ExactCrease) (s : ExactSegment) → ((f : ExactCrease) → Contains ys f → Contains xs f) → IsFree xs s → IsFree ys s
@@ -88,5 +88,27 @@ module _ (m n : BTreeMap ExactSegment Colour) (x : ExactCrease) (xs : List Exact
       same = λ f. (
         λ c. (let d = (w f).0 c in (taken_found_members f).1 ((t.same f).0 d.0, d.1)),
         λ c. (let d = (taken_found_members f).0 c in (w f).1 ((t.same f).1 d.0, d.1)),
+      );
+    }
+
+  -- after one took a colour
+  module _ (c : Colour) (h : Contains (creases_of m.entries) x) (u : (q : ExactSegment) → get segment_cmp n q ≡ cond (is_at (segment_cmp x.seg) q) (Some c) (get segment_cmp m q)) where
+    pub recoloured_found_members : (f : ExactCrease) → Contains (creases_of n.entries) f ↔ ((f ≡ coloured_as x c) ⊎ (Contains (creases_of m.entries) f × (f ≢ x)))
+    recoloured_found_members f = (
+      λ d. elim ((put_one m n (coloured_as x c) t.ordered on u f).0 d) [ inl e ↦ inl (sym e) | inr o ↦ inr (o.0, λ e. o.1 (ap (λ (g : ExactCrease). g.seg) (sym e))) ],
+      λ d. (put_one m n (coloured_as x c) t.ordered on u f).1 (elim d [ inl e ↦ inl (sym e) | inr o ↦ inr (o.0, λ e. o.1 (one_on_segment (creases_of m.entries) f x t.standing.ordered o.0 h (sym e))) ]),
+    )
+
+    pub recoloured_are_standing : AreStanding (creases_of n.entries)
+    recoloured_are_standing = recoloured_standing x c (creases_of m.entries) (creases_of n.entries) t.standing h
+        (found_ascend n on (recoloured_are_held x c (creases_of m.entries) (creases_of n.entries) (held_in (creases_of m.entries) t.standing) h (λ f. (recoloured_found_members f).0))) (λ f. (recoloured_found_members f).0)
+
+    pub recoloured_found : (ys : List ExactCrease) → ((f : ExactCrease) → Contains ys f ↔ ((f ≡ coloured_as x c) ⊎ (Contains xs f × (f ≢ x)))) → AreFound n.entries ys
+    recoloured_found ys w = record {
+      ordered = on;
+      standing = recoloured_are_standing;
+      same = λ f. (
+        λ d. (recoloured_found_members f).1 (elim ((w f).0 d) [ inl e ↦ inl e | inr o ↦ inr ((t.same f).0 o.0, o.1) ]),
+        λ d. (w f).1 (elim ((recoloured_found_members f).0 d) [ inl e ↦ inl e | inr o ↦ inr ((t.same f).1 o.0, o.1) ]),
       );
     }

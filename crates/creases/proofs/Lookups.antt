@@ -7,7 +7,7 @@ use Rattle.std.specs.Ordering.{is_eq}
 use Rattle.std.specs.BTreeMap.{is_at}
 use Rattle.std.specs.Map.{lookup}
 use Rattle.std.proofs.lemmas.Cmp.{tied_itself}
-use Rattle.std.proofs.lemmas.List.Elements.{All-cons, All-nil}
+use Rattle.std.proofs.lemmas.List.Elements.{All-cons, All-contains, All-nil}
 use Rattle.std.proofs.lemmas.Bool.{true≢false}
 use Rattle.exact.specs.Plane.{ExactSegment}
 use Rattle.plane.specs.Order.{segment_cmp}
@@ -53,3 +53,7 @@ step_missing false e es s t h f =
 pub colour_missing : (es : List (ExactSegment × Colour)) (s : ExactSegment) → lookup (is_at (segment_cmp s)) es ≡ None → IsUncreased (creases_of es) s
 colour_missing [] s h = All-nil (λ (g : ExactCrease). g.seg ≢ s)
 colour_missing (e ∷ es) s h = step_missing (is_at (segment_cmp s) e.0) e es s refl h (colour_missing es s)
+
+-- and so no crease is that one
+pub not_there : (es : List (ExactSegment × Colour)) (f : ExactCrease) → lookup (is_at (segment_cmp f.seg)) es ≡ None → ¬ Contains (creases_of es) f
+not_there es f e c = All-contains (λ (g : ExactCrease). g.seg ≢ f.seg) (creases_of es) f (colour_missing es f.seg e) c refl

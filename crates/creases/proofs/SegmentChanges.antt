@@ -34,7 +34,7 @@ segment_at [] i d = refl
 segment_at (e ∷ es) zero d = refl
 segment_at (e ∷ es) (suc i) d = segment_at es i d
 
-as_long : (es : List (ExactSegment × Colour)) → length (creases_of es) ≡ length es
+pub as_long : (es : List (ExactSegment × Colour)) → length (creases_of es) ≡ length es
 as_long [] = refl
 as_long (e ∷ es) = omega (arith, as_long es)
 

@@ -36,3 +36,12 @@ AreWith old crease new = (f : ExactCrease) → Contains new f ↔ ((f ≡ crease
 -- the old creases but this one
 abbrev pub AreBut : List ExactCrease → ExactCrease → List ExactCrease → Type 0
 AreBut old crease new = (f : ExactCrease) → Contains new f ↔ (Contains old f × (f ≢ crease))
+
+-- the crease, with this colour
+abbrev pub coloured_as : ExactCrease → Colour → ExactCrease
+coloured_as crease c = record { seg = crease.seg; colour = c }
+
+-- the old creases, of which this one took a colour
+abbrev pub AreRecoloured : List ExactCrease → ExactCrease → Colour → List ExactCrease → Type 0
+AreRecoloured old crease c new = (f : ExactCrease)
+    → Contains new f ↔ ((f ≡ coloured_as crease c) ⊎ (Contains old f × (f ≢ crease)))

@@ -4,7 +4,8 @@ ghost use Rattle.std.specs.declared.cmp.Ordering.{Ordering};
 ghost use Rattle.std.specs.Ordering.{is_gt};
 ghost use Rattle.exact.specs.Plane.{Overlap};
 ghost use Rattle.plane.specs.Segments.{IsHeld};
-ghost use Rattle.creases.specs.Creases.{AreBut, AreOverlapping, AreWith, FollowOneAnother, IsFree};
+ghost use Rattle.creases.specs.Creases.{AreBut, AreOverlapping, AreRecoloured, AreWith};
+ghost use Rattle.creases.specs.Creases.{FollowOneAnother, IsFree};
 ghost use Rattle.creases.specs.Index.{IsIndex, OverlapBetween};
 ghost use Rattle.creases.specs.Places.{IsPlaceOf, IsEndOf, place_cmp};
 
@@ -12,6 +13,7 @@ use crate::place::Place;
 use crate::{Crease, Overlapping};
 use plane::{Seg, is_before};
 use ports::NoMemory;
+use sheet::Colour;
 use std::alloc::Global;
 use std::collections::BTreeMap;
 use std::marker::Model;
@@ -87,6 +89,20 @@ impl LineIndex {
         ensures { AreBut self.old crease.now self.new }
     {
         self.by_place.remove(&Place::of(&crease.seg));
+    }
+
+    /// Gives a crease that is there this colour.
+    pub(crate) fn recolour(&mut self, crease: &Crease, colour: Colour)
+        requires { Contains self.old crease.now }
+        ensures { AreRecoloured self.old crease.now colour self.new }
+    {
+        let Some(kept) = self.by_place.get_mut(&Place::of(&crease.seg)) else {
+            return;
+        };
+        *kept = Crease {
+            seg: crease.seg,
+            colour,
+        };
     }
 
     /// An equal index.

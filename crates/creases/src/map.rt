@@ -1,8 +1,8 @@
 //! Creases of which no two overlap, found by their segments and by the lines on which they lie.
 ghost use Rattle.std.specs.Prelude.{◌≡◌, ◌↔◌, ◌<◌, ◌^◌, [], Contains, length, IsTrue, IsFalse};
 ghost use Rattle.std.specs.Prelude.{IfSome, IsNone, IfOk, OnOk, OnErr};
-ghost use Rattle.creases.specs.Creases.{AreBut, AreOverlapping, AreWith, FollowOneAnother};
-ghost use Rattle.creases.specs.Creases.{IsColoured, IsFree, IsUncreased};
+ghost use Rattle.creases.specs.Creases.{AreBut, AreOverlapping, AreRecoloured, AreWith};
+ghost use Rattle.creases.specs.Creases.{FollowOneAnother, IsColoured, IsFree, IsUncreased};
 ghost use Rattle.plane.specs.Segments.{IsHeld};
 ghost use Rattle.plane.specs.Support.{IsSupportOf};
 ghost use Rattle.creases.specs.Standing.{AreStanding};
@@ -168,6 +168,26 @@ impl CreaseMap {
         }
         self.by_segment.remove(&crease.seg);
         self.by_line.take(crease);
+        true
+    }
+
+    /// Gives a crease this colour, and says whether the crease was there with its own. Where it was
+    /// not, nothing changes. It takes no memory.
+    pub fn recolour(&mut self, crease: &Crease, colour: Colour) -> bool
+        ensures there { IsTrue result ↔ Contains self.old crease.now }
+        ensures recoloured { IsTrue result → AreRecoloured self.old crease.now colour self.new }
+        ensures not_recoloured { IsFalse result → self.new ≡ self.old }
+        ensures count { length self.new ≡ length self.old }
+        ensures standing { AreStanding self.new }
+    {
+        let Some(kept) = self.by_segment.get_mut(&crease.seg) else {
+            return false;
+        };
+        if *kept != crease.colour {
+            return false;
+        }
+        *kept = colour;
+        self.by_line.recolour(crease, colour);
         true
     }
 

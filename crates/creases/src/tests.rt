@@ -121,3 +121,24 @@ fn creases_come_and_go(rt: HostRuntime) -> Result<(), Fail> {
     assert!(rt; are(alloc, &copy, &[rising(&rt), first, second, third])?);
     Ok(())
 }
+
+#[test]
+fn creases_take_other_colours(rt: HostRuntime) -> Result<(), Fail> {
+    let alloc = rt.alloc();
+    let mut map = four(&rt, alloc)?;
+    let [first, second, third] = level(&rt);
+    let mountain = Crease {
+        seg: second.seg,
+        colour: Colour::M,
+    };
+    // A valley is on that segment, and no mountain.
+    let recoloured = map.recolour(&mountain, Colour::A);
+    assert!(rt; !recoloured && map.has(&second));
+
+    let recoloured = map.recolour(&second, Colour::M);
+    assert!(rt; recoloured && map.len() == 4);
+    assert!(rt; are(alloc, &map, &[rising(&rt), first, mountain, third])?);
+    let within = seg(&rt, "5/16,1/2", "7/16,1/2");
+    assert!(rt; overlap(alloc, &map, &within, &[mountain])?);
+    Ok(())
+}

@@ -3,6 +3,7 @@ pub mod NumberBytes
 pub mod LineText
 pub mod Appending
 pub mod Placing
+pub mod Recolouring
 pub mod NativeSteps
 pub mod Headers
 pub mod OneText

@@ -25,7 +25,7 @@ AreLeft old gone now = (f : ExactCrease) → Contains now f ↔ (Contains old f 
 abbrev pub AreMore : List ExactCrease → List ExactCrease → List ExactCrease → Type 0
 AreMore old come now = (f : ExactCrease) → Contains now f ↔ (Contains come f ⊎ Contains old f)
 
-none_yet : (xs : List ExactCrease) (f : ExactCrease) → ¬ Contains (take 0 xs) f
+pub none_yet : (xs : List ExactCrease) (f : ExactCrease) → ¬ Contains (take 0 xs) f
 none_yet xs f c = omega (arith, c.1, length-take 0 xs)
 
 pub left_none : (old gone : List ExactCrease) → AreLeft old (take 0 gone) old
@@ -50,7 +50,7 @@ left_next old gone i x now after l e t u = subst (λ (xs : List ExactCrease). Ar
     )
 
 -- an ascending list has its element at i nowhere before
-not_earlier : (xs : List ExactCrease) (i : ℕ) (x : ExactCrease) → Ascends xs → i < length xs → x ≡ get_or xs i x → ¬ Contains (take i xs) x
+pub not_earlier : (xs : List ExactCrease) (i : ℕ) (x : ExactCrease) → Ascends xs → i < length xs → x ≡ get_or xs i x → ¬ Contains (take i xs) x
 not_earlier xs i x h l e c =
     let short : c.0 < i = omega (arith, c.1, length-take i xs) in
     let there : get_or xs c.0 x ≡ x = sym (get_or-take i xs c.0 x short) ∙ c.2 in

@@ -1,5 +1,6 @@
 -- The tests by which a delta is found to fit a pattern.
-use Rattle.std.specs.Prelude.{◌⊎◌, ◌+◌, ◌≤◌, List, length, All, AllPairs, Contains}
+use Rattle.std.specs.Prelude.{◌≡◌, ◌⊎◌, ◌↔◌, ◌+◌, ◌≤◌, List, length, All, AllPairs, Contains}
+use Rattle.std.specs.List.{AllZip}
 use Rattle.exact.specs.Plane.{Overlap}
 use Rattle.sheet.specs.Sheet.{ExactSheet}
 use Rattle.sheet.specs.Pattern.{ExactCrease, ExactPattern, IsKey, crease_limit}
@@ -28,3 +29,12 @@ pub record PassesTests (old : ExactPattern) (removed added : List ExactCrease) :
   pub few : length old.creases + length added ≤ crease_limit + length removed
   pub apart : AreApart added
   pub free : All (IsFreeBut old.creases removed) added
+
+-- these are on the segments of those, one by one
+abbrev pub AreOnSame : List ExactCrease → List ExactCrease → Type 0
+AreOnSame gone come = AllZip (λ f g. f.seg ≡ g.seg) gone come
+
+-- the old creases that are not gone, and those that came
+abbrev pub AreExchanged : List ExactCrease → List ExactCrease → List ExactCrease → List ExactCrease → Type 0
+AreExchanged old gone come new = (f : ExactCrease)
+    → Contains new f ↔ ((Contains old f × (¬ Contains gone f)) ⊎ Contains come f)

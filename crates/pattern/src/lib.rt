@@ -8,6 +8,7 @@ mod fits;
 mod laws;
 mod native;
 mod pattern;
+mod recolour;
 mod step;
 
 pub use creases::{Crease, CreaseMap, Creases, Overlapping};

@@ -7,6 +7,7 @@ ghost use Rattle.pattern.specs.Fitting.{CanCome};
 ghost use Rattle.pattern.specs.declared.delta.Delta.{Delta as AnyDelta};
 
 use crate::fits::{ascend, is_key};
+use crate::recolour::are_on_same;
 use crate::{Crease, CreaseMap, Delta, Pattern};
 use ports::NoMemory;
 use sheet::{CREASE_LIMIT, Sheet};
@@ -44,14 +45,27 @@ impl Pattern {
         ensures some { IfOk result (λ found. IfSome found (let delta : AnyDelta = record { removed = gone.now; added = come.now } in Leads self delta)) }
         ensures exactly { IfOk result (λ found. IsSome found ↔ (let delta : AnyDelta = record { removed = gone.now; added = come.now } in Fits self delta)) }
     {
-        let sheet = self.sheet();
-        let mut creases = self.creases;
         if !ascend(gone) {
             return Ok(None);
         }
         if !ascend(come) {
             return Ok(None);
         }
+        if are_on_same(gone, come) {
+            return Ok(self.recoloured(gone, come));
+        }
+        self.exchanged(gone, come)
+    }
+
+    /// As `changed`, for lists that ascend.
+    fn exchanged(self, gone: &[Crease], come: &[Crease]) -> Result<Option<Pattern>, NoMemory>
+        requires gone { Ascends gone.now }
+        requires come { Ascends come.now }
+        ensures some { IfOk result (λ found. IfSome found (let delta : AnyDelta = record { removed = gone.now; added = come.now } in Leads self delta)) }
+        ensures exactly { IfOk result (λ found. IsSome found ↔ (let delta : AnyDelta = record { removed = gone.now; added = come.now } in Fits self delta)) }
+    {
+        let sheet = self.sheet();
+        let mut creases = self.creases;
         if !take_all(&mut creases, gone) {
             return Ok(None);
         }

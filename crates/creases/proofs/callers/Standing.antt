@@ -9,7 +9,8 @@ use Rattle.exact.specs.Plane.{Before, Overlap, SegmentBefore}
 use Rattle.geometry.proofs.PointOrder.{before_not_itself}
 use Rattle.sheet.specs.Pattern.{ExactCrease}
 use Rattle.plane.specs.Segments.{IsHeld}
-use Rattle.creases.specs.Creases.{Ascends, AreWith, FollowOneAnother, IsFree}
+use Rattle.sheet.specs.declared.colour.Colour.{Colour}
+use Rattle.creases.specs.Creases.{Ascends, AreWith, FollowOneAnother, IsFree, coloured_as}
 use Rattle.creases.specs.Standing.{AreStanding}
 use Rattle.creases.proofs.callers.Members.{all_of, pair_at, pairs_of, same_list}
 use Rattle.creases.proofs.callers.Overlaps.{overlap_back, overlap_itself}
@@ -66,6 +67,25 @@ more_are_held x xs ys h k m f c = elim (m f c) [ inl e ↦ subst (λ (y : ExactC
 
 pub more_standing : (x : ExactCrease) (xs ys : List ExactCrease) → AreStanding xs → IsHeld x.seg → IsFree xs x.seg → Ascends ys → ((f : ExactCrease) → Contains ys f → (f ≡ x) ⊎ Contains xs f) → AreStanding ys
 more_standing x xs ys h k n a m = standing_of ys a (more_are_held x xs ys (held_in xs h) k m) (more_are_apart x xs ys (apart_in xs h) n m)
+
+-- where one of them took a colour
+recoloured_apart : (x f g : ExactCrease) (c : Colour) (xs : List ExactCrease) → ((f g : ExactCrease) → Contains xs f → Contains xs g → f ≢ g → ¬ Overlap f.seg g.seg) → Contains xs x
+    → ((f ≡ coloured_as x c) ⊎ (Contains xs f × (f ≢ x))) → ((g ≡ coloured_as x c) ⊎ (Contains xs g × (g ≢ x))) → f ≢ g → ¬ Overlap f.seg g.seg
+recoloured_apart x f g c xs h k (inl e) (inl i) ne v = ne (e ∙ sym i)
+recoloured_apart x f g c xs h k (inl e) (inr d) ne v = h x g k d.0 (λ s. d.1 (sym s)) (subst (λ (y : ExactCrease). Overlap y.seg g.seg) e v)
+recoloured_apart x f g c xs h k (inr d) (inl i) ne v = h f x d.0 k d.1 (subst (λ (y : ExactCrease). Overlap f.seg y.seg) i v)
+recoloured_apart x f g c xs h k (inr d) (inr b) ne v = h f g d.0 b.0 ne v
+
+pub recoloured_are_apart : (x : ExactCrease) (c : Colour) (xs ys : List ExactCrease) → ((f g : ExactCrease) → Contains xs f → Contains xs g → f ≢ g → ¬ Overlap f.seg g.seg) → Contains xs x
+    → ((f : ExactCrease) → Contains ys f → (f ≡ coloured_as x c) ⊎ (Contains xs f × (f ≢ x))) → (f g : ExactCrease) → Contains ys f → Contains ys g → f ≢ g → ¬ Overlap f.seg g.seg
+recoloured_are_apart x c xs ys h k m f g a b = recoloured_apart x f g c xs h k (m f a) (m g b)
+
+pub recoloured_are_held : (x : ExactCrease) (c : Colour) (xs ys : List ExactCrease) → ((f : ExactCrease) → Contains xs f → IsHeld f.seg) → Contains xs x
+    → ((f : ExactCrease) → Contains ys f → (f ≡ coloured_as x c) ⊎ (Contains xs f × (f ≢ x))) → (f : ExactCrease) → Contains ys f → IsHeld f.seg
+recoloured_are_held x c xs ys h k m f d = elim (m f d) [ inl e ↦ subst (λ (y : ExactCrease). IsHeld y.seg) (sym e) (h x k) | inr o ↦ h f o.0 ]
+
+pub recoloured_standing : (x : ExactCrease) (c : Colour) (xs ys : List ExactCrease) → AreStanding xs → Contains xs x → Ascends ys → ((f : ExactCrease) → Contains ys f → (f ≡ coloured_as x c) ⊎ (Contains xs f × (f ≢ x))) → AreStanding ys
+recoloured_standing x c xs ys h k a m = standing_of ys a (recoloured_are_held x c xs ys (held_in xs h) k m) (recoloured_are_apart x c xs ys (apart_in xs h) k m)
 
 -- a crease that comes after all others is put at the end
 pub put_last : (x : ExactCrease) (xs ys : List ExactCrease) → AreStanding xs → AreStanding ys → All (λ f. SegmentBefore f.seg x.seg) xs → AreWith xs x ys → ys ≡ xs ++ x ∷ []
