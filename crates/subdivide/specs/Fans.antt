@@ -1,5 +1,6 @@
 -- The rays of all vertices, as they are read off the edges.
-use Rattle.std.specs.Prelude.{◌≡◌, ◌≢◌, ℕ, ◌<◌, ◌⊎◌, ◌↔◌, List, length, slice_get, slice_index_or, Some, Contains}
+use Rattle.std.specs.Prelude.{◌≡◌, ◌≢◌, ℕ, ◌<◌, ◌⊎◌, ◌↔◌, List, length, Contains}
+use Rattle.std.specs.Prelude.{Some, slice_get, slice_index_or}
 use Rattle.exact.specs.Plane.{ExactPoint, ExactSegment, IsSegment, DirOf}
 use Rattle.sheet.specs.Pattern.{ExactPattern}
 use Rattle.layers.specs.Star.{IsStar}
@@ -31,7 +32,8 @@ EndAt e i j = ((e.from ≡ i) × (e.to ≡ j)) ⊎ ((e.to ≡ i) × (e.from ≡ 
 pub record IsJoined (vs : List ExactPoint) (e : EdgePlaces) : Type 0 where
   pub rising : e.from < e.to
   pub within : e.to < length vs
-  pub segment : (s : ExactSegment) → slice_get vs e.from ≡ Some s.p → slice_get vs e.to ≡ Some s.q → IsSegment s
+  pub segment : (s : ExactSegment) → slice_get vs e.from ≡ Some s.p → slice_get vs e.to ≡ Some s.q
+      → IsSegment s
 
 -- the edge goes out of vertex i along the ray
 pub record Gives (vs : List ExactPoint) (e : EdgePlaces) (i : ℕ) (r : Ray) : Type 0 where

@@ -1,8 +1,8 @@
 //! Laws of cutting, of chains and of the lines of a pattern.
 ghost use Rattle.std.specs.Prelude.{◌≡◌, ℕ, ◌<◌, ◌⊎◌, List, All, AllPairs, Contains};
-ghost use Rattle.exact.specs.Plane.{ExactPoint, ExactSegment, Before, IsPointCanonical};
+ghost use Rattle.exact.specs.Plane.{ExactPoint, ExactSegment, SamePoint, Before, IsPointCanonical};
 ghost use Rattle.sheet.specs.Pattern.{ExactPattern, IsPattern};
-ghost use Rattle.subdivide.specs.Subdivision.{AreVertices, AreEdges, EdgePlaces, IsLine, Answer, CutOf};
+ghost use Rattle.subdivide.specs.Subdivision.{AreVertices, AreEdges, EdgePlaces, IsLine, IsVertex, Answer, CutOf};
 ghost use Rattle.layers.specs.declared.star.Ray.{Ray as AnyRay};
 ghost use Rattle.subdivide.specs.Star.{StarOf};
 ghost use Rattle.subdivide.specs.Chain.{AreLines, AreSteps, IsChain, InChain};
@@ -34,5 +34,12 @@ pub fn cut_is_one()
 
 /// A vertex has one star.
 pub fn star_is_one()
-    ensures { (pattern : ExactPattern) (v : ExactPoint) (rays others : List AnyRay) → StarOf pattern v rays → StarOf pattern v others → rays ≡ others }
+    ensures { (pattern : ExactPattern) (v : ExactPoint) (rays others : List AnyRay) → StarOf pattern v rays
+        → StarOf pattern v others → rays ≡ others }
+{}
+
+/// A vertex and its star are those of a point, whatever numbers the point is given by.
+pub fn star_is_of_the_point()
+    ensures { (pattern : ExactPattern) (v w : ExactPoint) (rays : List AnyRay) → IsPattern pattern → SamePoint v w
+        → IsVertex pattern v → StarOf pattern v rays → IsVertex pattern w × StarOf pattern w rays }
 {}

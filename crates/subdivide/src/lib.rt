@@ -16,7 +16,8 @@ mod stars;
 pub use cut::{Subdivision, scratch};
 pub use edge::{CutBad, Edge, EdgeKind, VERTEX_LIMIT};
 pub use laws::{
-    chains_give_edges, chains_give_vertices, cut_is_one, patterns_give_lines, star_is_one,
+    chains_give_edges, chains_give_vertices, cut_is_one, patterns_give_lines, star_is_of_the_point,
+    star_is_one,
 };
 pub use live::Live;
 pub use plan::Plan;

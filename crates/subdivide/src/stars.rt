@@ -19,7 +19,8 @@ use qroot2::Dir;
 use sheet::Mark;
 use std::alloc::{AllocError, Global};
 
-/// The creases that leave a vertex: at each of the sixteen directions the mark of the one that does, if there is one.
+/// The creases that leave a vertex: at each of the sixteen directions the mark of the one that does, if there
+/// is one.
 #[derive(Clone, Copy)]
 pub struct Fan {
     marks: [Option<Mark>; 16],
@@ -102,7 +103,8 @@ fn note(vertices: &[Point], edge: &Edge, mark: Mark, fans: &mut Vec<Fan>)
 /// The creases that leave each vertex of a cut pattern, in the order of the vertices.
 pub fn fans_of(alloc: Global, cut: &Subdivision) -> Result<Vec<Fan>, NoMemory>
     requires { (pattern : ExactPattern) × IsCutAs pattern cut.now }
-    ensures { (pattern : ExactPattern) → IsCutAs pattern cut.now → IfOk result (λ fans. AreFans pattern cut.now.vertices fans.items) }
+    ensures { (pattern : ExactPattern) → IsCutAs pattern cut.now
+        → IfOk result (λ fans. AreFans pattern cut.now.vertices fans.items) }
 {
     let vertices = cut.vertices();
     let mut fans = without_rays(alloc, vertices)?;
@@ -117,7 +119,8 @@ pub fn fans_of(alloc: Global, cut: &Subdivision) -> Result<Vec<Fan>, NoMemory>
 /// A fan without rays for each vertex.
 fn without_rays(alloc: Global, vertices: &[Point]) -> Result<Vec<Fan>, AllocError>
     ensures long { IfOk result (λ fans. length fans.items ≡ length vertices.now) }
-    ensures none { IfOk result (λ fans. (i : ℕ) (d : AnyFan) (r : AnyRay) → i < length vertices.now → ¬ HasRay (slice_index_or fans.items i d) r) }
+    ensures none { IfOk result (λ fans. (i : ℕ) (d : AnyFan) (r : AnyRay) → i < length vertices.now
+        → ¬ HasRay (slice_index_or fans.items i d) r) }
 {
     vertices.iter().map(|_| Fan::empty()).collect(alloc)
 }
