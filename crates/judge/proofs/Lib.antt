@@ -1,3 +1,4 @@
 mod Sums
 mod Sectors
 mod Verdicts
+pub mod Faults

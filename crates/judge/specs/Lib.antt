@@ -1,3 +1,4 @@
 pub mod Conditions
 pub mod Verdict
 pub mod Cause
+pub mod Faults
