@@ -1,0 +1,55 @@
+//! Commands: questions, a new project, and changes of one.
+use crate::Name;
+use edits::Edit;
+use plane::Point;
+use sheet::Sheet;
+
+/// The greatest rev that a project can have. A rev says how often a project was changed.
+pub const LAST_REV: u64 = 1_000_000_000_000;
+
+/// A change of a project.
+#[derive(Drop)]
+pub enum Change {
+    /// An edit of its pattern.
+    Edit(Edit),
+    /// Takes back the last change that was not taken back.
+    Undo,
+    /// Makes the change again that was taken back last.
+    Redo,
+}
+
+/// What an editor of projects is told to do or asked.
+#[derive(Drop)]
+pub enum Command {
+    /// A new project of this name on this sheet, without creases.
+    New {
+        name: Name,
+        sheet: Sheet,
+    },
+    /// Which projects there are.
+    List,
+    /// The vertices and the edges of a pattern.
+    Show {
+        name: Name,
+    },
+    /// Which vertices of a pattern cannot be folded flat.
+    Faults {
+        name: Name,
+    },
+    /// How the paper folds at a vertex.
+    Vertex {
+        name: Name,
+        at: Point,
+    },
+    /// The native text of a pattern.
+    PatternText {
+        name: Name,
+    },
+    /// A change, which is refused where a rev is given and the project has another. A rev that is
+    /// given is at most [`LAST_REV`].
+    Change {
+        name: Name,
+        rev: Option<u64>,
+        change: Change,
+    },
+}

@@ -1,0 +1,15 @@
+//! What is asked of an editor of projects, and what it answers, as data.
+#![tactic(auto)]
+
+mod cause;
+mod command;
+mod name;
+mod reply;
+
+pub use cause::Cause;
+pub use command::{Change, Command, LAST_REV};
+pub use name::{Name, NotName};
+pub use reply::Reply;
+
+#[cfg(test)]
+mod tests;
