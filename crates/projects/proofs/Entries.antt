@@ -12,7 +12,7 @@ use Rattle.std.proofs.lemmas.Map.{keys-set_value}
 use Rattle.std.proofs.lemmas.Map.Keys.{sorted_tail}
 use Rattle.std.proofs.lemmas.Map.Entries.{lookup_at_gap}
 use Rattle.std.proofs.lemmas.Map.Views.{All-keys-insert_entry, All-values-insert_entry, All-values-set_value}
-use Rattle.projects.specs.Names.{IsName, name_cmp}
+use Rattle.dialogue.specs.Names.{IsName, name_cmp}
 use Rattle.projects.specs.Projects.{ExactProject, IsProject}
 use Rattle.projects.specs.Tables.{Tables, IsTables, project_at, with_project}
 

@@ -1,7 +1,11 @@
-pub mod NameBytes
 pub mod Walks
 pub mod Stepping
 pub mod Entries
 pub mod OneStep
 pub mod Lookups
 pub mod Committing
+pub mod Standing
+pub mod TablesStanding
+pub mod Changing
+pub mod Answering
+pub mod Asking

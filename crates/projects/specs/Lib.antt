@@ -1,6 +1,10 @@
-pub mod Names
 pub mod Projects
 pub mod Steps
 pub mod Tables
 pub mod Keeping
 pub mod Memory
+pub mod Entries
+pub mod Machine
+pub mod Ends
+pub mod Changes
+pub mod Desk

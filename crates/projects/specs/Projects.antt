@@ -1,10 +1,11 @@
 -- Projects: a pattern, how often it was changed, and the deltas that lead to it and on from it.
-use Rattle.std.specs.Prelude.{◌≡◌, ℕ, ◌≤◌, ◌^◌, List, [], ◌∷◌}
+use Rattle.std.specs.Prelude.{◌≡◌, ℕ, ◌≤◌, List, [], ◌∷◌}
 use Rattle.sheet.specs.Sheet.{ExactSheet}
 use Rattle.sheet.specs.Pattern.{ExactPattern, IsPattern}
 use Rattle.pattern.specs.Deltas.{Fits, Leads}
 use Rattle.pattern.specs.declared.delta.Delta.{Delta}
 use Rattle.history.specs.Histories.{ExactHistory, IsHistory}
+pub use Rattle.dialogue.specs.Revs.{last_rev}
 
 -- The number of steps that were taken, the present pattern, and the deltas of the past and the future.
 pub record ExactProject : Type 0 where
@@ -24,10 +25,6 @@ IsPast deltas now = (first : ExactPattern) × IsPattern first × Walk first delt
 -- the deltas lead from this pattern to some other
 abbrev pub IsFuture : ExactPattern → List Delta → Type 0
 IsFuture now deltas = (last : ExactPattern) × Walk now deltas last
-
--- the greatest rev
-abbrev pub last_rev : ℕ
-last_rev = 10 ^ 12
 
 -- The past leads to the present pattern, and the future leads on from it.
 pub record IsProject (project : ExactProject) : Type 0 where

@@ -4,7 +4,7 @@ use Rattle.std.specs.BTreeMap.{is_at, insert_entry}
 use Rattle.std.specs.Map.{lookup, keys_of, values_of}
 use Rattle.std.specs.List.Sorted.{IsStrictlySortedBy}
 use Rattle.sheet.specs.Sheet.{ExactSheet}
-use Rattle.projects.specs.Names.{IsName, name_cmp}
+use Rattle.dialogue.specs.Names.{IsName, name_cmp}
 use Rattle.projects.specs.Projects.{ExactProject, IsProject, empty_project, last_rev}
 use Rattle.projects.specs.Steps.{StepFits, Stepped}
 use Rattle.projects.specs.declared.step.Step.{Step}

@@ -1,23 +1,25 @@
 //! Projects, the steps that change them, and what keeps them.
 #![tactic(auto)]
 
+mod changes;
+mod desk;
+mod early;
 mod keeper;
 mod laws;
 mod memory;
-mod name;
+mod open;
 mod project;
+mod questions;
 mod step;
 mod tables;
 
+pub use desk::Desk;
+pub use dialogue::{Cause, Change, Command, Name, NotName, Reply};
 pub use keeper::{Keeper, KeeperEnd};
 pub use laws::{
-    past_is_taken_back, redo_gives_back, step_leads_to_one, tables_hold_what_was_put,
-    undo_gives_back,
+    entries_are_one, entry_is_one, past_is_taken_back, redo_gives_back, step_leads_to_one,
+    steps_stand, tables_hold_what_was_put, tables_stand_for_entries, undo_gives_back,
 };
 pub use memory::MemKeeper;
-pub use name::{Name, NotName};
 pub use project::Project;
 pub use step::Step;
-
-#[cfg(test)]
-mod tests;

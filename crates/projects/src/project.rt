@@ -5,15 +5,13 @@ ghost use Rattle.projects.specs.Projects.{IsProject, IsPast, IsFuture, empty_pro
 ghost use Rattle.projects.specs.Steps.{StepFits, Stepped, LeadsBack, LeadsForth};
 
 use crate::Step;
+use dialogue::LAST_REV;
 use history::History;
 use pattern::{Delta, Pattern};
 use ports::NoMemory;
 use sheet::Sheet;
 use std::alloc::Global;
 use std::marker::Model;
-
-/// The greatest rev.
-const LAST_REV: u64 = 1_000_000_000_000;
 
 /// A project: its pattern, the number of steps that were taken, and the deltas to undo and to redo.
 #[derive(Drop)]
@@ -102,6 +100,16 @@ impl Project {
         ensures project { IsProject self.now }
     {
         &self.history
+    }
+
+    /// The rev, the present pattern, and the deltas to undo and to redo.
+    pub fn into_parts(self) -> (u64, Pattern, History)
+        ensures rev { result.0 ≡ self.rev }
+        ensures pattern { result.1 ≡ self.pattern }
+        ensures history { result.2 ≡ self.history }
+        ensures project { IsProject self }
+    {
+        (self.rev, self.pattern, self.history)
     }
 
     /// An equal project.

@@ -1,0 +1,130 @@
+//! The step that a change makes of a project, or why there is none.
+ghost use Rattle.std.specs.Prelude.{◌≡◌, ◌<◌, IfOk, IfErr};
+ghost use Rattle.dialogue.specs.Revs.{last_rev};
+ghost use Rattle.dialogue.specs.declared.cause.Cause.TheVariants as cause;
+ghost use Rattle.dialogue.specs.declared.command.Change.TheVariants as change;
+ghost use Rattle.pattern.specs.Deltas.{Fits};
+ghost use Rattle.projects.specs.Projects.{IsProject};
+ghost use Rattle.projects.specs.Machine.{Unless, IsStale};
+ghost use Rattle.projects.specs.Ends.{EndsBy, IsUncut};
+ghost use Rattle.projects.specs.Changes.{StepsOn, Refuses, LeadsToCut, IsUncutAfter, MakesStep, RefusesChange};
+
+use crate::early::Early;
+use crate::open::OpenProject;
+use crate::{Project, Step};
+use dialogue::{Cause, Change, LAST_REV};
+use edits::{Edit, plan};
+use judge::Judged;
+use pattern::Delta;
+use ports::Steps;
+use std::alloc::Global;
+use std::marker::Brand;
+use std::sync::ledger::{Blank, Ledger};
+
+/// The step that a change makes of a project, where the rev is right and both patterns are cut.
+pub(crate) fn step_of(
+    alloc: Global,
+    project: Project,
+    given: Option<u64>,
+    change: &Change,
+) -> Result<Step, Early>
+    ensures ok { IfOk result (MakesStep project given change.now) }
+    ensures err { IfErr result (EndsBy (RefusesChange project given change.now)) }
+{
+    let opened = OpenProject::new(alloc, project)?;
+    test_rev(opened.rev, given)?;
+    change_step(alloc, &opened, change)
+}
+
+/// Whether the rev that was given, if one was, is the kept one, and the kept one can rise.
+fn test_rev(kept: u64, given: Option<u64>) -> Result<(), Cause>
+    ensures { Unless (IsStale given kept) (cause.Stale kept)
+        (Unless (kept ≡ last_rev) cause.RevFull (λ a. a ≡ Ok tt)) result }
+{
+    if let Some(given) = given {
+        if given != kept {
+            return Err(Cause::Stale { rev: kept });
+        }
+    }
+    if kept == LAST_REV {
+        return Err(Cause::RevFull);
+    }
+    Ok(())
+}
+
+/// The step that a change makes, where the pattern to which it leads is cut.
+fn change_step(alloc: Global, opened: &OpenProject, change: &Change) -> Result<Step, Early>
+    requires { IsProject opened.now }
+    ensures ok { IfOk result (StepsOn opened.now change.now) }
+    ensures err { IfErr result (EndsBy (Refuses opened.now change.now)) }
+{
+    match change {
+        Change::Edit(edit) => edit_step(alloc, opened, edit),
+        Change::Undo => undo_step(alloc, opened),
+        Change::Redo => redo_step(alloc, opened),
+    }
+}
+
+/// The step of an edit.
+fn edit_step(alloc: Global, opened: &OpenProject, edit: &Edit) -> Result<Step, Early>
+    ensures ok { IfOk result (StepsOn opened.now (change.Edit edit.now)) }
+    ensures err { IfErr result (EndsBy (Refuses opened.now (change.Edit edit.now))) }
+{
+    let delta = plan(alloc, opened.judged.pattern(), edit)?;
+    check(alloc, &opened.judged, &delta)?;
+    Ok(Step::Do(delta))
+}
+
+/// The step that takes the last change back.
+fn undo_step(alloc: Global, opened: &OpenProject) -> Result<Step, Early>
+    requires { IsProject opened.now }
+    ensures ok { IfOk result (StepsOn opened.now change.Undo) }
+    ensures err { IfErr result (EndsBy (Refuses opened.now change.Undo)) }
+{
+    let Some(last) = opened.history.last() else {
+        return Err(Early::Refused(Cause::NothingToUndo));
+    };
+    let back = last.copy(alloc)?.inverse();
+    check(alloc, &opened.judged, &back)?;
+    Ok(Step::Undo)
+}
+
+/// The step that makes the next change again.
+fn redo_step(alloc: Global, opened: &OpenProject) -> Result<Step, Early>
+    requires { IsProject opened.now }
+    ensures ok { IfOk result (StepsOn opened.now change.Redo) }
+    ensures err { IfErr result (EndsBy (Refuses opened.now change.Redo)) }
+{
+    let Some(next) = opened.history.next() else {
+        return Err(Early::Refused(Cause::NothingToRedo));
+    };
+    check(alloc, &opened.judged, next)?;
+    Ok(Step::Redo)
+}
+
+/// Whether the pattern to which a delta leads is cut.
+fn check(alloc: Global, judged: &Judged, delta: &Delta) -> Result<(), Early>
+    requires { Fits judged.now delta.now }
+    ensures ok { IfOk result (λ _. LeadsToCut judged.now delta.now) }
+    ensures err { IfErr result (EndsBy (IsUncutAfter judged.now delta.now)) }
+{
+    checked::<Brand>(alloc, judged, delta, Blank::new(1))
+}
+
+/// The same, with a counter of its own.
+fn checked<L: Ledger>(
+    alloc: Global,
+    judged: &Judged,
+    delta: &Delta,
+    blank: Blank,
+) -> Result<(), Early>
+    requires fits { Fits judged.now delta.now }
+    requires name { blank.name ≡ L.name }
+    requires parts { blank.parts ≡ L.parts }
+    requires some { 0 < blank.parts }
+    ensures ok { IfOk result (λ _. LeadsToCut judged.now delta.now) }
+    ensures err { IfErr result (EndsBy (IsUncutAfter judged.now delta.now)) }
+{
+    let _plan = judged.check(alloc, delta, &mut Steps::<L>::begin(blank))?;
+    Ok(())
+}

@@ -1,0 +1,144 @@
+//! What answers the commands of a designer.
+ghost use Rattle.std.specs.Prelude.{◌≡◌, IfOk, IsSome};
+ghost use Rattle.dialogue.specs.declared.command.Command.TheVariants as command;
+ghost use Rattle.projects.specs.Keeping.{Tells};
+ghost use Rattle.projects.specs.Projects.{IsProject};
+ghost use Rattle.projects.specs.Desk.{Replies, RepliesWhereRose, Does, EndsWhereRose, Fetched, FetchesWhereRose};
+
+use crate::changes::step_of;
+use crate::early::Early;
+use crate::questions::{faults, reported, shown, written};
+use crate::{Keeper, Project};
+use dialogue::{Cause, Change, Command, Name, Reply};
+use ports::{Listed, NoMemory};
+use sheet::Sheet;
+use std::alloc::Global;
+
+/// What answers commands, one after another. It keeps nothing between two calls.
+#[derive(Debug, Drop)]
+pub struct Desk;
+
+impl Desk {
+    /// A desk.
+    ///
+    /// # Errors
+    ///
+    /// `NoMemory` where memory for what it keeps runs out.
+    pub fn new(_alloc: Global) -> Result<Desk, NoMemory> {
+        Ok(Desk)
+    }
+
+    /// The reply to a command, over the tables of a keeper. It is `Refused` with the first rule that
+    /// is broken; then, and where a question is answered, nothing is changed. It is `KeeperFailed`,
+    /// and nothing is changed, where a call of the keeper fails: its count of faults rose. The last
+    /// call of the keeper is the one that changes its tables, and no memory is taken after it.
+    ///
+    /// # Errors
+    ///
+    /// `NoMemory` where memory runs out. Then nothing is changed.
+    pub fn act<K: Keeper>(
+        &mut self,
+        alloc: Global,
+        keeper: &mut K,
+        command: &Command,
+    ) -> Result<Reply, NoMemory>
+        ensures told { Tells (K.tables keeper.old) (K.is_clean keeper.new) (K.tables keeper.new)
+            (λ before after. Replies before command.now result after) }
+        ensures clean { K.is_clean keeper.new → K.is_clean keeper.old }
+        ensures cause { RepliesWhereRose (K.faults keeper.old) (K.faults keeper.new) result }
+        ensures path { K.keeper_path keeper.new ≡ K.keeper_path keeper.old }
+    {
+        match answer(alloc, keeper, command) {
+            Ok(reply) => Ok(reply),
+            Err(Early::Refused(cause)) => Ok(Reply::Refused(cause)),
+            Err(Early::KeeperFailed) => Ok(Reply::KeeperFailed),
+            Err(Early::NoMemory) => Err(NoMemory),
+        }
+    }
+}
+
+/// The reply to a command, or why it ends before it is done.
+fn answer<K: Keeper>(alloc: Global, keeper: &mut K, command: &Command) -> Result<Reply, Early>
+    ensures told { Tells (K.tables keeper.old) (K.is_clean keeper.new) (K.tables keeper.new)
+        (λ before after. Does before command.now result after) }
+    ensures clean { K.is_clean keeper.new → K.is_clean keeper.old }
+    ensures cause { EndsWhereRose (K.faults keeper.old) (K.faults keeper.new) result }
+    ensures path { K.keeper_path keeper.new ≡ K.keeper_path keeper.old }
+{
+    match command {
+        Command::New { name, sheet } => create_project(alloc, keeper, name, *sheet),
+        Command::List => list_projects(alloc, keeper),
+        Command::Show { name } => shown(alloc, fetch_project(alloc, keeper, name)?),
+        Command::Faults { name } => faults(alloc, fetch_project(alloc, keeper, name)?),
+        Command::Vertex { name, at } => reported(alloc, fetch_project(alloc, keeper, name)?, at),
+        Command::PatternText { name } => written(alloc, &fetch_project(alloc, keeper, name)?),
+        Command::Change { name, rev, change } => change_project(alloc, keeper, name, *rev, change),
+    }
+}
+
+/// The project under a name.
+fn fetch_project<K: Keeper>(alloc: Global, keeper: &mut K, name: &Name) -> Result<Project, Early>
+    ensures told { Tells (K.tables keeper.old) (K.is_clean keeper.new) (K.tables keeper.new)
+        (λ before after. (after ≡ before) × Fetched before name.now result) }
+    ensures untold { IsSome (K.tables keeper.new) → K.is_clean keeper.new → IsSome (K.tables keeper.old) }
+    ensures clean { K.is_clean keeper.new → K.is_clean keeper.old }
+    ensures cause { FetchesWhereRose (K.faults keeper.old) (K.faults keeper.new) result }
+    ensures path { K.keeper_path keeper.new ≡ K.keeper_path keeper.old }
+{
+    match keeper.fetch(alloc, name)? {
+        Some(project) => Ok(project),
+        None => Err(Early::Refused(Cause::NoProject)),
+    }
+}
+
+/// A new project.
+fn create_project<K: Keeper>(
+    alloc: Global,
+    keeper: &mut K,
+    name: &Name,
+    sheet: Sheet,
+) -> Result<Reply, Early>
+    ensures told { Tells (K.tables keeper.old) (K.is_clean keeper.new) (K.tables keeper.new)
+        (λ before after. Does before (command.New name.now sheet) result after) }
+    ensures clean { K.is_clean keeper.new → K.is_clean keeper.old }
+    ensures cause { EndsWhereRose (K.faults keeper.old) (K.faults keeper.new) result }
+    ensures path { K.keeper_path keeper.new ≡ K.keeper_path keeper.old }
+{
+    if keeper.create(alloc, name, sheet)? {
+        Ok(Reply::Done { rev: 0 })
+    } else {
+        Err(Early::Refused(Cause::Exists))
+    }
+}
+
+/// The names of all projects.
+fn list_projects<K: Keeper>(alloc: Global, keeper: &mut K) -> Result<Reply, Early>
+    ensures told { Tells (K.tables keeper.old) (K.is_clean keeper.new) (K.tables keeper.new)
+        (λ before after. Does before command.List result after) }
+    ensures clean { K.is_clean keeper.new → K.is_clean keeper.old }
+    ensures cause { EndsWhereRose (K.faults keeper.old) (K.faults keeper.new) result }
+    ensures path { K.keeper_path keeper.new ≡ K.keeper_path keeper.old }
+{
+    Ok(Reply::Names(Listed::new(keeper.names(alloc)?)))
+}
+
+/// A change of a project.
+fn change_project<K: Keeper>(
+    alloc: Global,
+    keeper: &mut K,
+    name: &Name,
+    given: Option<u64>,
+    change: &Change,
+) -> Result<Reply, Early>
+    ensures told { Tells (K.tables keeper.old) (K.is_clean keeper.new) (K.tables keeper.new)
+        (λ before after. Does before (command.Change name.now given change.now) result after) }
+    ensures clean { K.is_clean keeper.new → K.is_clean keeper.old }
+    ensures cause { EndsWhereRose (K.faults keeper.old) (K.faults keeper.new) result }
+    ensures path { K.keeper_path keeper.new ≡ K.keeper_path keeper.old }
+{
+    let project = fetch_project(alloc, keeper, name)?;
+    let rev = project.rev() + 1;
+    let step = step_of(alloc, project, given, change)?;
+    keeper.commit(alloc, name, &step)?;
+    Ok(Reply::Done { rev })
+}
