@@ -1,0 +1,27 @@
+use Rattle.std.proofs.Common.{refl}
+use Rattle.std.proofs.lemmas.Result.{err_from_is_err_and}
+use Rattle.commands.proofs.Steps.{ended, more, then, wrong}
+use Rattle.commands.proofs.asked.extend.Goals as goal
+
+pub returns-in_err-who : goal.returns-in_err-who
+returns-in_err-who c = let p = err_from_is_err_and c.from_residual.result c.from_residual.ensures.1 in
+    rw (p.1, p.2) (wrong c.in_err-who.ensures.wrong)
+
+pub returns-in_err-colour : goal.returns-in_err-colour
+returns-in_err-colour c = let p = err_from_is_err_and c.from_residual-in_err-colour.result c.from_residual-in_err-colour.ensures.1 in
+    rw (p.1, p.2) (then c.in_ok-who.ensures.right (wrong c.in_err-colour.ensures.wrong))
+
+pub returns-in_err-at : goal.returns-in_err-at
+returns-in_err-at c = let p = err_from_is_err_and c.from_residual-in_err-at.result c.from_residual-in_err-at.ensures.1 in
+    rw (p.1, p.2) (then c.in_ok-who.ensures.right (then c.in_ok-colour.ensures.right (wrong c.in_err-at.ensures.wrong)))
+
+pub returns-in_err-dir : goal.returns-in_err-dir
+returns-in_err-dir c = let p = err_from_is_err_and c.from_residual-in_err-dir.result c.from_residual-in_err-dir.ensures.1 in
+    rw (p.1, p.2) (then c.in_ok-who.ensures.right (then c.in_ok-colour.ensures.right (then c.in_ok-at.ensures.right (wrong c.in_err-dir.ensures.wrong))))
+
+pub returns-in_err-end : goal.returns-in_err-end
+returns-in_err-end c = let p = err_from_is_err_and c.from_residual-in_err-end.result c.from_residual-in_err-end.ensures.1 in
+    rw (p.1, p.2) (then c.in_ok-who.ensures.right (then c.in_ok-colour.ensures.right (then c.in_ok-at.ensures.right (then c.in_ok-dir.ensures.right (more c.in_err-end.ensures.more)))))
+
+pub returns : goal.returns
+returns c = rw c.edited.ensures (then c.in_ok-who.ensures.right (then c.in_ok-colour.ensures.right (then c.in_ok-at.ensures.right (then c.in_ok-dir.ensures.right (ended (c.in_ok-end.ensures.none refl))))))

@@ -1,0 +1,30 @@
+//! The texts of commands, read, and those of replies, written.
+#![tactic(auto)]
+
+mod asked;
+mod bad;
+mod block;
+mod cause;
+mod digits;
+mod fields;
+mod laws;
+mod letter;
+mod line;
+mod number;
+mod read;
+mod reply;
+mod report;
+mod verb;
+mod who;
+mod words;
+mod written;
+
+pub use bad::BadText;
+pub use laws::reading_is_one;
+pub use read::read_command;
+pub use reply::{write_bad, write_reply};
+
+#[cfg(test)]
+mod reply_tests;
+#[cfg(test)]
+mod tests;
