@@ -10,7 +10,8 @@ use Rattle.subdivide.specs.declared.edge.CutBad.{CutBad}
 use Rattle.subdivide.specs.declared.edge.CutBad.TheVariants as bad
 use Rattle.oriedit.specs.CutText.{CutText, PatternText, answer_status, refusal_text}
 use Rattle.oriedit.specs.Reading.{IsSpent}
-use Rattle.oriedit.specs.Run.{Answers, Gained, WritesDue, Ends}
+use Rattle.oriedit.specs.Outputs.{Gained}
+use Rattle.oriedit.specs.Run.{Answers, WritesDue, Ends}
 use Rattle.oriedit.specs.declared.status.Status.{Status}
 use Rattle.oriedit.specs.declared.status.Status.TheVariants as status
 

@@ -4,7 +4,8 @@ use Rattle.sheet.specs.Pattern.{ExactPattern, IsPattern}
 use Rattle.pattern.proofs.OneText.{one_pattern}
 use Rattle.pattern.proofs.OneRefusal.{not_refused, one_refusal}
 use Rattle.subdivide.proofs.OneAnswer.{one_answer}
-use Rattle.oriedit.specs.ReplyText.{refused_text, bad_cause}
+use Rattle.commands.specs.ReplyText.{refused_text}
+use Rattle.oriedit.specs.ReplyText.{bad_cause}
 use Rattle.oriedit.specs.CutText.{CutText, PatternText, answer_text, answer_status}
 use Rattle.oriedit.specs.declared.status.Status.{Status}
 

@@ -1,19 +1,19 @@
 -- The text that `cut` owes for its input, and the status that it ends with.
-use Rattle.std.specs.Prelude.{◌≡◌, ℕ, ◌⊎◌, List, codes}
+use Rattle.std.specs.Prelude.{◌≡◌, ℕ, ◌⊎◌, List}
 use Rattle.sheet.specs.Pattern.{ExactPattern}
 use Rattle.pattern.specs.NativeReading.{IsRead, IsRefused}
 use Rattle.pattern.specs.declared.native.PatternBad.{PatternBad}
 use Rattle.subdivide.specs.Subdivision.{Answer, CutOf}
 use Rattle.subdivide.specs.declared.edge.CutBad.{CutBad}
 use Rattle.subdivide.specs.declared.edge.CutBad.TheVariants as bad
-use Rattle.oriedit.specs.ReplyText.{shown_text, refused_text, bad_cause, cross_cause}
+use Rattle.commands.specs.ReplyText.{shown_text, refused_text, cut_cause}
+use Rattle.oriedit.specs.ReplyText.{bad_cause}
 use Rattle.oriedit.specs.declared.status.Status.{Status}
 use Rattle.oriedit.specs.declared.status.Status.TheVariants as status
 
 -- the line of a refusal of cutting
 abbrev pub refusal_text : CutBad → List ℕ
-refusal_text (bad.CrossRange s t) = refused_text (cross_cause s t)
-refusal_text bad.TooManyVertices = refused_text (codes "TooManyVertices")
+refusal_text why = refused_text (cut_cause why)
 
 -- the text and the status for an answer of cutting
 abbrev pub answer_text : Answer → List ℕ

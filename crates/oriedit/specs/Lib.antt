@@ -3,4 +3,11 @@ pub mod Words
 pub mod Reading
 pub mod ReplyText
 pub mod CutText
+pub mod Outputs
+pub mod Dues
+pub mod Units
+pub mod Turns
+pub mod Script
+pub mod Answering
+pub mod Lasting
 pub mod Run

@@ -1,22 +1,14 @@
 -- A run of the program: what it takes from its source, what it writes, and how it ends.
-use Rattle.std.specs.Prelude.{◌≡◌, ℕ, ◌≤◌, ◌<◌, ◌^◌, ◌⊎◌, List, ◌++◌, length, Option, Some, None}
-use Rattle.ports.specs.Streams.{IsFront}
+use Rattle.std.specs.Prelude.{◌≡◌, ℕ, ◌≤◌, ◌<◌, ◌^◌, ◌⊎◌, List, length, Option}
 use Rattle.oriedit.specs.Reading.{Gave, IsSpent}
-use Rattle.oriedit.specs.Words.{usage_text}
+use Rattle.oriedit.specs.Outputs.{Gained, GainedFront}
+use Rattle.oriedit.specs.Words.{Asks, usage_text}
+use Rattle.oriedit.specs.Script.{Works, ScriptRuns}
+use Rattle.oriedit.specs.declared.asking.Ask.{Ask}
+use Rattle.oriedit.specs.declared.asking.Ask.TheVariants as ask
 use Rattle.oriedit.specs.CutText.{CutText}
 use Rattle.oriedit.specs.declared.status.Status.{Status}
 use Rattle.oriedit.specs.declared.status.Status.TheVariants as status
-
--- a sink that tells what it holds gained this text and nothing else
-abbrev pub Gained : Option (List ℕ) → Option (List ℕ) → List ℕ → Type 0
-Gained None None text = Unit {0}
-Gained None (Some now) text = ⊥
-Gained (Some held) None text = ⊥
-Gained (Some held) (Some now) text = now ≡ held ++ text
-
--- it gained a front of this text
-abbrev pub GainedFront : Option (List ℕ) → Option (List ℕ) → List ℕ → Type 0
-GainedFront held now text = (part : List ℕ) × IsFront part text × Gained held now part
 
 -- the text was due with this status: it was written, or a front of it and the end is a write fault
 abbrev pub WritesDue : Option (List ℕ) → Option (List ℕ) → List ℕ → Status → Status → Type 0
@@ -42,10 +34,25 @@ Ends bytes left held now status.ReadFault = (length bytes < 2 ^ 24) × (now ≡ 
 Ends bytes left held now status.TooLong = (length bytes ≡ 2 ^ 24) × (now ≡ held)
 Ends bytes left held now status.Usage = ⊥
 
+-- what keeps the projects was not touched
+pub record Keeps (old new : Works) : Type 0 where
+  pub tables : new.tables ≡ old.tables
+  pub faults : new.faults ≡ old.faults
+
 -- A run of `cut`. A source that tells had the taken bytes at its front and has what stood behind them.
 abbrev pub CutRuns : Option (List ℕ) → Option (List ℕ) → Option (List ℕ) → Option (List ℕ) → Status → Type 0
-CutRuns old left held now s = (bytes : List ℕ) × Gave old left bytes × Ends bytes left held now s
+CutRuns was left held now s = (bytes : List ℕ) × Gave was left bytes × Ends bytes left held now s
 
 -- A run with words that are not in the grammar. Nothing is taken.
 abbrev pub UsageRuns : Option (List ℕ) → Option (List ℕ) → Option (List ℕ) → Option (List ℕ) → Status → Type 0
-UsageRuns old left held now s = (left ≡ old) × WritesDue held now usage_text status.Usage s
+UsageRuns was left held now s = (left ≡ was) × WritesDue held now usage_text status.Usage s
+
+-- What each command is: from which source and which works to which, and with which status.
+abbrev pub Means : Ask → Option (List ℕ) → Option (List ℕ) → Works → Type 0 → Works → Status → Type 0
+Means ask.Usage was left old clean new s = UsageRuns was left old.held new.held s × Keeps old new
+Means ask.Cut was left old clean new s = CutRuns was left old.held new.held s × Keeps old new
+Means ask.Script was left old clean new s = ScriptRuns was left old clean new s
+
+-- a run of the program: what its words ask for
+abbrev pub Runs : List (List ℕ) → Option (List ℕ) → Option (List ℕ) → Works → Type 0 → Works → Status → Type 0
+Runs words was left old clean new s = (a : Ask) × Asks words a × Means a was left old clean new s

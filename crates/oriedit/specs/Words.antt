@@ -1,9 +1,19 @@
 -- The words of the command line.
-use Rattle.std.specs.Prelude.{◌≡◌, ℕ, List, [], ◌∷◌, codes}
+use Rattle.std.specs.Prelude.{◌≡◌, ◌≢◌, ℕ, List, [], ◌∷◌, codes}
+use Rattle.oriedit.specs.declared.asking.Ask.{Ask}
+use Rattle.oriedit.specs.declared.asking.Ask.TheVariants as ask
 
--- the words of `cut`: its name alone
-abbrev pub IsCutWords : List (List ℕ) → Type 0
-IsCutWords words = words ≡ codes "cut" ∷ []
+-- what the words ask for: `cut` or `script` alone, and for all others the usage text
+abbrev pub Asks : List (List ℕ) → Ask → Type 0
+Asks words ask.Cut = words ≡ codes "cut" ∷ []
+Asks words ask.Script = words ≡ codes "script" ∷ []
+Asks words ask.Usage = (words ≢ codes "cut" ∷ []) × (words ≢ codes "script" ∷ [])
+
+-- the same for a single word
+abbrev pub AsksWord : List ℕ → Ask → Type 0
+AsksWord word ask.Cut = word ≡ codes "cut"
+AsksWord word ask.Script = word ≡ codes "script"
+AsksWord word ask.Usage = (word ≢ codes "cut") × (word ≢ codes "script")
 
 abbrev pub usage_text : List ℕ
 usage_text =

@@ -1,11 +1,17 @@
 //! The program: reads the words of its command line, does what they ask, and ends with a status.
 #![tactic(auto)]
 
-mod commands;
+mod answering;
+mod asking;
+mod cutting;
+mod early;
 mod laws;
 mod program;
 mod reading;
 mod reply;
+#[cfg(test)]
+mod script_tests;
+mod scripting;
 mod status;
 #[cfg(test)]
 mod tests;
@@ -13,6 +19,8 @@ mod tests;
 pub use laws::cut_text_is_one;
 use ports::{NoMemory, StdSink, StdSource};
 pub use program::run;
+use projects::MemKeeper;
+pub use scripting::script;
 pub use status::Status;
 use std::alloc::Global;
 use std::env;
@@ -26,7 +34,8 @@ fn main(rt: HostRuntime) -> ExitCode {
     };
     let mut source = StdSource::new(&rt);
     let mut sink = StdSink::new(&rt);
-    ExitCode::from(run(alloc, &words, &mut source, &mut sink).number())
+    let mut keeper = MemKeeper::new(alloc, Vec::new(alloc), Vec::new(alloc));
+    ExitCode::from(run(alloc, &words, &mut source, &mut sink, &mut keeper).number())
 }
 
 /// The words after the program's name. Where one of them is not UTF-8 there are none here, and so

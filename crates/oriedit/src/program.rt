@@ -1,31 +1,54 @@
 //! The call that does all that the program does.
-ghost use Rattle.std.specs.Prelude.{◌≡◌, ◌≤◌, ◌<◌, ◌^◌, map, string_bytes, ◌↔◌, IsTrue, ◌⊎◌, codes, List};
+ghost use Rattle.std.specs.Prelude.{◌≡◌, ◌≤◌, map, string_bytes};
 ghost use Rattle.ports.specs.Streams.{Rose};
-ghost use Rattle.oriedit.specs.Words.{IsCutWords, usage_text};
-ghost use Rattle.oriedit.specs.Run.{CutRuns, UsageRuns, WritesDue};
+ghost use Rattle.oriedit.specs.Script.{works};
+ghost use Rattle.oriedit.specs.Run.{CutRuns, Runs};
 
 use crate::Status;
-use crate::commands::{cut, usage};
+use crate::asking::{Ask, asked};
+use crate::cutting::{cut, usage};
 use crate::reading::{ReadEnd, read_all};
+use crate::scripting::script;
 use ports::{Sink, Source};
+use projects::Keeper;
 use std::alloc::Global;
 
 /// The input of `cut` has fewer bytes than this, 2^24.
 const LIMIT: usize = 16_777_216;
 
-/// Does all that the program does. The words are those after the program's name, and `cut` alone
-/// is the one command: it reads a pattern's text and writes its subdivision. Other words write the
-/// usage text.
-pub fn run<S: Source, W: Sink>(
+/// Does all that the program does. The words are those after the program's name. `cut` alone reads
+/// a pattern's text and writes its subdivision; `script` alone reads commands and writes their
+/// replies. Other words write the usage text.
+pub fn run<S: Source, W: Sink, K: Keeper>(
     alloc: Global,
     words: &[String],
     source: &mut S,
     sink: &mut W,
+    keeper: &mut K,
 ) -> Status
-    ensures cut { IsCutWords (map string_bytes words.now)
-        → CutRuns (S.left source.old) (S.left source.new) (W.held sink.old) (W.held sink.new) result }
-    ensures usage { (IsCutWords (map string_bytes words.now) → ⊥)
-        → UsageRuns (S.left source.old) (S.left source.new) (W.held sink.old) (W.held sink.new) result }
+    ensures runs { Runs (map string_bytes words.now) (S.left source.old) (S.left source.new)
+        (works (W.held sink.old) (K.tables keeper.old) (K.faults keeper.old)) (K.is_clean keeper.new)
+        (works (W.held sink.new) (K.tables keeper.new) (K.faults keeper.new)) result }
+    ensures read_fault { result ≡ Status.ReadFault → Rose (S.faults source.old) (S.faults source.new) }
+    ensures write_fault { result ≡ Status.WriteFault → Rose (W.faults sink.old) (W.faults sink.new) }
+    ensures source_faults { S.faults source.old ≤ S.faults source.new }
+    ensures sink_faults { W.faults sink.old ≤ W.faults sink.new }
+    ensures keeper_faults { K.faults keeper.old ≤ K.faults keeper.new }
+    ensures source_aside { S.aside source.new ≡ S.aside source.old }
+    ensures sink_aside { W.aside sink.new ≡ W.aside sink.old }
+    ensures keeper_clean { K.is_clean keeper.new → K.is_clean keeper.old }
+    ensures keeper_path { K.keeper_path keeper.new ≡ K.keeper_path keeper.old }
+{
+    match asked(words) {
+        Ask::Usage => usage(sink),
+        Ask::Cut => cut_input(alloc, source, sink),
+        Ask::Script => script(alloc, source, sink, keeper),
+    }
+}
+
+/// Does what `cut` does: reads a pattern's text and writes its subdivision.
+fn cut_input<S: Source, W: Sink>(alloc: Global, source: &mut S, sink: &mut W) -> Status
+    ensures cut { CutRuns (S.left source.old) (S.left source.new) (W.held sink.old) (W.held sink.new) result }
     ensures read_fault { result ≡ Status.ReadFault → Rose (S.faults source.old) (S.faults source.new) }
     ensures write_fault { result ≡ Status.WriteFault → Rose (W.faults sink.old) (W.faults sink.new) }
     ensures source_faults { S.faults source.old ≤ S.faults source.new }
@@ -33,29 +56,10 @@ pub fn run<S: Source, W: Sink>(
     ensures source_aside { S.aside source.new ≡ S.aside source.old }
     ensures sink_aside { W.aside sink.new ≡ W.aside sink.old }
 {
-    if !is_cut(words) {
-        return usage(sink);
-    }
     match read_all(alloc, source, LIMIT) {
         Err(ReadEnd::Failed) => Status::ReadFault,
         Err(ReadEnd::TooLong) => Status::TooLong,
         Err(ReadEnd::NoMemory) => Status::NoMemory,
         Ok(bytes) => cut(alloc, &bytes, sink),
     }
-}
-
-/// Whether the words are those of `cut`.
-fn is_cut(words: &[String]) -> bool
-    ensures { IsTrue result ↔ IsCutWords (map string_bytes words.now) }
-{
-    match words {
-        [word] => is_word(word.as_str()),
-        _ => false,
-    }
-}
-
-fn is_word(word: &str) -> bool
-    ensures { IsTrue result ↔ (word.now ≡ codes "cut") }
-{
-    word == "cut"
 }

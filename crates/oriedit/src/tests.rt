@@ -1,6 +1,7 @@
 //! Runs of the whole program over streams in memory.
 use crate::{Status, run};
 use ports::{MemSink, MemSource};
+use projects::MemKeeper;
 use qroot2::{Num, put_num};
 use std::alloc::Global;
 use std::test::Fail;
@@ -17,7 +18,8 @@ fn cut_of(
     words.push(String::from_str(alloc, "cut")?)?;
     let mut source = MemSource::new(bytes, 4096, broken);
     let mut sink = MemSink::new(Vec::with_capacity(alloc, 1000)?, 1000, full);
-    let status = run(alloc, &words, &mut source, &mut sink);
+    let mut keeper = MemKeeper::new(alloc, Vec::new(alloc), Vec::new(alloc));
+    let status = run(alloc, &words, &mut source, &mut sink, &mut keeper);
     Ok((status, sink))
 }
 
@@ -195,7 +197,23 @@ fn other_words_write_the_usage_text(rt: HostRuntime) -> Result<(), Fail> {
     let alloc = rt.alloc();
     let mut source = MemSource::new(Vec::new(alloc), 1, Vec::new(alloc));
     let mut sink = MemSink::new(Vec::with_capacity(alloc, 1000)?, 1000, Vec::new(alloc));
-    assert_eq!(rt; run(alloc, &[], &mut source, &mut sink), Status::Usage);
+    let mut keeper = MemKeeper::new(alloc, Vec::new(alloc), Vec::new(alloc));
+    assert_eq!(rt;
+        run(alloc, &[], &mut source, &mut sink, &mut keeper),
+        Status::Usage
+    );
     assert_eq!(rt; sink.bytes()[..19], b"usage: oriedit cut\n"[..]);
+    Ok(())
+}
+
+#[test]
+fn a_sink_that_fails_at_the_usage_text_is_a_write_fault(rt: HostRuntime) -> Result<(), Fail> {
+    let alloc = rt.alloc();
+    let mut source = MemSource::new(Vec::new(alloc), 1, Vec::new(alloc));
+    let full = [1u64].to_vec(alloc)?;
+    let mut sink = MemSink::new(Vec::with_capacity(alloc, 1000)?, 1000, full);
+    let mut keeper = MemKeeper::new(alloc, Vec::new(alloc), Vec::new(alloc));
+    let status = run(alloc, &[], &mut source, &mut sink, &mut keeper);
+    assert_eq!(rt; status, Status::WriteFault);
     Ok(())
 }

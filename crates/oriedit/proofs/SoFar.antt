@@ -1,0 +1,191 @@
+-- A script up to some place.
+use Rattle.std.proofs.Common.{◌≡◌, ℕ, ◌+◌, ◌<◌, ◌≤◌, ◌^◌, length, length-append, take, List, [], ◌++◌, append_assoc, append-nil, refl, sym, ap, subst, ◌∙◌, inl, inr, arith}
+use Rattle.std.specs.Prelude.{Contains, Option, Some, None, Ok, Err}
+use Rattle.std.specs.List.{concat}
+use Rattle.std.proofs.lemmas.List.{take-append-le, length-take-le}
+use Rattle.std.proofs.lemmas.List.Elements.{All-nil, All-append}
+use Rattle.ports.specs.Streams.{Takes}
+use Rattle.oriedit.specs.Reading.{Gave, IsSpent}
+use Rattle.oriedit.specs.Units.{IsLine, AreLines, last_line}
+use Rattle.oriedit.specs.Script.{Works, AreAnswered, AreCutOff, DoesSome, ScriptRuns}
+use Rattle.oriedit.specs.Answering.{AnswersLines, status_of}
+use Rattle.oriedit.specs.Lasting.{AnswersLast}
+use Rattle.oriedit.specs.declared.early.Early.{Early}
+use Rattle.oriedit.specs.declared.early.Early.TheVariants as early
+use Rattle.oriedit.specs.declared.status.Status.{Status}
+use Rattle.oriedit.specs.declared.status.Status.TheVariants as status
+use Rattle.oriedit.proofs.Taken.{gave_more}
+use Rattle.oriedit.proofs.Joining.{concat_more, answered_more, cut_off_more}
+use Rattle.oriedit.proofs.Answered.{nothing_yet}
+
+-- Bytes were taken: their whole lines were answered, and a line was begun.
+pub record IsRead (was left : Option (List ℕ)) (line : List ℕ) (taken : ℕ) (old : Works) (clean : Type 0) (now : Works) : Type 0 where
+  pub bytes : List ℕ
+  pub units : List (List ℕ)
+  pub gave : Gave was left bytes
+  pub count : length bytes ≡ taken
+  pub lines : AreLines bytes units line
+  pub answered : AreAnswered old clean now units
+
+gave_nothing : (was : Option (List ℕ)) → Gave was was []
+gave_nothing None = tt
+gave_nothing (Some x) = refl
+
+pub nothing_read : (was : Option (List ℕ)) (line : List ℕ) (w : Works) (clean : Type 0) → line ≡ [] → IsRead was was line 0 w clean w
+nothing_read was line w clean e = record {
+  bytes = [];
+  units = [];
+  gave = gave_nothing was;
+  count = refl;
+  lines = record {
+    all = sym e;
+    lines = All-nil IsLine;
+    unfinished = subst (λ t. ¬ Contains t 10) (sym e) (λ c. let l = c.1 in omega arith);
+  };
+  answered = nothing_yet w clean;
+}
+
+-- lines of more bytes, behind whole lines and a line that was begun
+lines_behind : (bytes line piece kept : List ℕ) (us vs : List (List ℕ)) → AreLines bytes us line → AreLines (line ++ piece) vs kept → AreLines (bytes ++ piece) (us ++ vs) kept
+lines_behind bytes line piece kept us vs l m = record {
+  all = ap (λ t. t ++ piece) l.all ∙ append_assoc (concat us) line piece ∙ ap (λ t. concat us ++ t) m.all
+      ∙ sym (append_assoc (concat us) (concat vs) kept) ∙ ap (λ t. t ++ kept) (sym (concat_more us vs));
+  lines = All-append IsLine us vs l.lines m.lines;
+  unfinished = m.unfinished;
+}
+
+-- a piece was taken and its lines were answered
+pub more_read : (was mid left : Option (List ℕ)) (line piece kept : List ℕ) (taken after : ℕ) (old now new : Works) (C D : Type 0) → (D → C)
+    → (r : IsRead was mid line taken old C now) → Gave was left (r.bytes ++ piece) → after ≡ taken + length piece → AnswersLines (line ++ piece) kept now D new (Ok tt)
+    → IsRead was left kept after old D new
+more_read was mid left line piece kept taken after old now new C D f r g e a = record {
+  bytes = r.bytes ++ piece;
+  units = r.units ++ a.0;
+  gave = g;
+  count = length-append r.bytes piece ∙ ap (λ n. n + length piece) r.count ∙ sym e;
+  lines = lines_behind r.bytes line piece kept r.units a.0 r.lines a.1;
+  answered = answered_more old now new C D f r.units a.0 r.answered a.2;
+}
+
+some_behind : (bytes line piece : List ℕ) (us : List (List ℕ)) (P Q : List (List ℕ) → Type 0) → AreLines bytes us line → ((vs : List (List ℕ)) → P vs → Q (us ++ vs)) → DoesSome (line ++ piece) P → DoesSome (bytes ++ piece) Q
+some_behind bytes line piece us P Q l f d = record {
+  units = us ++ d.units;
+  later = d.later;
+  rest = d.rest;
+  lines = subst (λ x. AreLines (bytes ++ piece) x d.rest) (sym (append_assoc us d.units d.later)) (lines_behind bytes line piece d.rest us (d.units ++ d.later) l d.lines);
+  done = f d.units d.done;
+}
+
+-- a piece was taken, and the script ended at one of its lines
+pub ended_at : (was mid left : Option (List ℕ)) (line piece kept : List ℕ) (taken : ℕ) (old now new : Works) (C D : Type 0) (e : Early) → (D → C)
+    → (r : IsRead was mid line taken old C now) → Gave was left (r.bytes ++ piece) → taken + length piece ≤ 2 ^ 28 → AnswersLines (line ++ piece) kept now D new (Err e)
+    → ScriptRuns was left old D new (status_of e)
+ended_at was mid left line piece kept taken old now new C D early.WriteFault f r g l a =
+    let short : length (r.bytes ++ piece) ≤ 2 ^ 28 = simp length-append (omega (arith, r.count, l)) in
+    (r.bytes ++ piece, g, inl (short, some_behind r.bytes line piece r.units (AreCutOff now D new) (AreCutOff old D new) r.lines (λ vs c. cut_off_more old now new C D f r.units vs r.answered c) a))
+ended_at was mid left line piece kept taken old now new C D early.NoMemory f r g l a =
+    let short : length (r.bytes ++ piece) ≤ 2 ^ 28 = simp length-append (omega (arith, r.count, l)) in
+    (r.bytes ++ piece, g, (short, some_behind r.bytes line piece r.units (AreAnswered now D new) (AreAnswered old D new) r.lines (λ vs c. answered_more old now new C D f r.units vs r.answered c) a))
+
+-- the source has ended, and the last line was answered
+ended_whole : (was left : Option (List ℕ)) (line : List ℕ) (taken : ℕ) (old now new : Works) (C D : Type 0) (s : Status) → (D → C) → taken < 2 ^ 28 → IsSpent left
+    → IsRead was left line taken old C now → AnswersLast line now D new s → ScriptRuns was left old D new s
+ended_whole was left line taken old now new C D status.Ok f l z r a = (
+  r.bytes,
+  r.gave,
+  (
+    omega (arith, r.count, l),
+    record {
+      units = r.units;
+      rest = line;
+      lines = r.lines;
+      spent = z;
+      done = answered_more old now new C D f r.units (last_line line) r.answered a;
+    },
+  ),
+)
+ended_whole was left line taken old now new C D status.WriteFault f l z r a = (
+  r.bytes,
+  r.gave,
+  inr (
+    omega (arith, r.count, l),
+    record {
+      units = r.units;
+      rest = line;
+      lines = r.lines;
+      spent = z;
+      done = cut_off_more old now new C D f r.units (last_line line) r.answered a;
+    },
+  ),
+)
+ended_whole was left line taken old now new C D status.NoMemory f l z r a = (
+  r.bytes,
+  r.gave,
+  (
+    omega (arith, r.count, l),
+    record {
+      units = r.units;
+      later = [];
+      rest = line;
+      lines = subst (λ x. AreLines r.bytes x line) (sym (append-nil r.units)) r.lines;
+      done = subst (AreAnswered old D new) (append-nil r.units) (answered_more old now new C D f r.units [] r.answered a);
+    },
+  ),
+)
+ended_whole was left line taken old now new C D status.Usage f l z r a = absurd a
+ended_whole was left line taken old now new C D status.ReadFault f l z r a = absurd a
+ended_whole was left line taken old now new C D status.TooLong f l z r a = absurd a
+ended_whole was left line taken old now new C D status.Refused f l z r a = absurd a
+
+pub ended : (was left : Option (List ℕ)) (line rest : List ℕ) (taken : ℕ) (old now new : Works) (C D : Type 0) (s : Status) → (D → C) → taken < 2 ^ 28 → IsSpent left
+    → IsRead was left line taken old C now → rest ≡ line → AnswersLast rest now D new s → ScriptRuns was left old D new s
+ended was left line rest taken old now new C D s f l z r e a = ended_whole was left line taken old now new C D s f l z r (subst (λ t. AnswersLast t now D new s) e a)
+
+-- nothing was done at all
+pub nothing_done : (was : Option (List ℕ)) (w : Works) (clean : Type 0) → ScriptRuns was was w clean w status.NoMemory
+nothing_done was w clean = (
+  [],
+  gave_nothing was,
+  (
+    omega arith,
+    record {
+      units = [];
+      later = [];
+      rest = [];
+      lines = record { all = refl; lines = All-nil IsLine; unfinished = λ c. let l = c.1 in omega arith };
+      done = nothing_yet w clean;
+    },
+  ),
+)
+
+-- a take that saw the end
+pub end_gave : (E : Type 0) (was mid left : Option (List ℕ)) (bytes a b : List ℕ) (n : ℕ) → n ≡ 0 → Takes {E = E} mid left a b (Ok n) → Gave was mid bytes → Gave was left bytes
+end_gave E None None None bytes a b n z t g = tt
+end_gave E None None (Some y) bytes a b n z t g = absurd t
+end_gave E None (Some x) left bytes a b n z t g = absurd g
+end_gave E (Some w) None left bytes a b n z t g = absurd g
+end_gave E (Some w) (Some x) None bytes a b n z t g = absurd t
+end_gave E (Some w) (Some x) (Some y) bytes a b n z t g = g ∙ ap (λ r. bytes ++ r) (t.front ∙ ap (λ k. take k b ++ y) z)
+
+pub end_spent : (E : Type 0) (mid left : Option (List ℕ)) (a b : List ℕ) (n : ℕ) → n ≡ 0 → 0 < length a → Takes {E = E} mid left a b (Ok n) → IsSpent left
+end_spent E None None a b n z l t = tt
+end_spent E None (Some y) a b n z l t = absurd t
+end_spent E (Some x) None a b n z l t = absurd t
+end_spent E (Some x) (Some y) a b n z l t = sym (t.front ∙ ap (λ k. take k b ++ y) z) ∙ t.ends l z
+
+pub read_on : (was mid left : Option (List ℕ)) (line : List ℕ) (taken : ℕ) (old now : Works) (clean : Type 0) → (r : IsRead was mid line taken old clean now) → Gave was left r.bytes → IsRead was left line taken old clean now
+read_on was mid left line taken old now clean r g = record {
+  bytes = r.bytes;
+  units = r.units;
+  gave = g;
+  count = r.count;
+  lines = r.lines;
+  answered = r.answered;
+}
+
+-- what a take gave, as the front of the whole block
+pub piece_gave : (E : Type 0) (was mid left : Option (List ℕ)) (bytes a b rest : List ℕ) (n : ℕ) → n ≤ length b → Gave was mid bytes → Takes {E = E} mid left a b (Ok n) → Gave was left (bytes ++ take n (b ++ rest))
+piece_gave E was mid left bytes a b rest n l g t = subst (λ p. Gave was left (bytes ++ p)) (sym (take-append-le n b rest l)) (gave_more E was mid left bytes a b n g t)
+
+pub piece_length : (b rest : List ℕ) (n : ℕ) → n ≤ length b → length (take n (b ++ rest)) ≡ n
+piece_length b rest n l = ap length (take-append-le n b rest l) ∙ length-take-le n b l

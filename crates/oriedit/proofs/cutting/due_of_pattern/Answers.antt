@@ -1,0 +1,12 @@
+use Rattle.std.proofs.Common.{refl, subst}
+use Rattle.subdivide.specs.Subdivision.{Answer}
+use Rattle.ports.specs.Stops.{Refuses}
+use Rattle.subdivide.specs.CutAnswers.{IsCutAnswer}
+use Rattle.oriedit.proofs.Ending.{refused}
+use Rattle.oriedit.proofs.cutting.due_of_pattern.Goals as goal
+
+pub returns-in-Ok : goal.returns-in-Ok
+returns-in-Ok c = (Answer.Cut c.in-Ok.subdivision.vertices c.in-Ok.subdivision.edges, c.in-Ok.ensures, refl, refl)
+
+pub returns-in-Err-Why : goal.returns-in-Err-Why
+returns-in-Err-Why c = refused c.args.pattern.now c.in-Err-Why.bad (subst (Refuses (IsCutAnswer c.args.pattern.now)) c.in-Err-Why.field-0-is c.in-Err-Why.ensures) _ refl
