@@ -1,0 +1,4 @@
+pub mod Decimal
+pub mod Cutting
+pub mod DecimalText
+pub mod DecimalPoint
