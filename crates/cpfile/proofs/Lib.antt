@@ -1,0 +1,10 @@
+pub mod Known
+pub mod Capping
+pub mod FiveWords
+pub mod Ends
+pub mod OneCpText
+pub mod LineSteps
+pub mod TextLines
+pub mod WholeText
+pub mod OneLine
+pub mod OneReading
