@@ -1,0 +1,2 @@
+pub mod OneFoldText
+pub mod Joined
