@@ -1,4 +1,5 @@
 //! Why a command is refused.
+use cpfile::CpBad;
 use edits::EditBad;
 use subdivide::CutBad;
 
@@ -19,6 +20,8 @@ pub enum Cause {
     NothingToUndo,
     /// No change was taken back that could be made again.
     NothingToRedo,
+    /// The CP text is refused.
+    Cp(CpBad),
     /// The edit is refused.
     Edit(EditBad),
     /// The point is no vertex of the pattern.

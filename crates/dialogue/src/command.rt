@@ -1,7 +1,9 @@
 //! Commands: questions, a new project, and changes of one.
 use crate::Name;
 use edits::Edit;
+use lattice::Lattice;
 use plane::Point;
+use ports::Listed;
 use sheet::Sheet;
 
 /// The greatest rev that a project can have. A rev says how often a project was changed.
@@ -12,6 +14,8 @@ pub const LAST_REV: u64 = 1_000_000_000_000;
 pub enum Change {
     /// An edit of its pattern.
     Edit(Edit),
+    /// Draws the lines of a CP text, one after another, by a lattice of numbers.
+    Import { lattice: Lattice, text: Listed<u8> },
     /// Takes back the last change that was not taken back.
     Undo,
     /// Makes the change again that was taken back last.
@@ -43,6 +47,14 @@ pub enum Command {
     },
     /// The native text of a pattern.
     PatternText {
+        name: Name,
+    },
+    /// The subdivision of a pattern as CP text.
+    CpText {
+        name: Name,
+    },
+    /// The subdivision of a pattern as FOLD text.
+    FoldText {
         name: Name,
     },
     /// A change, which is refused where a rev is given and the project has another. A rev that is
