@@ -1,13 +1,9 @@
 pub mod Blocks
 pub mod Steps
-pub mod WordsFrom
-pub mod Solid
-pub mod AllWords
-pub mod Next
 pub mod Numbers
 pub mod Whos
 pub mod Commands
-pub mod OneLine
 pub mod OnePoint
 pub mod OneField
 pub mod OneReading
+pub mod Gathering

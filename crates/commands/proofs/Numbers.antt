@@ -6,7 +6,6 @@ use Rattle.std.specs.Str.Parse.{AllDigits, digits_value, ParsesUnsigned}
 use Rattle.std.proofs.lemmas.Fmt.{decimal_is_IsNumeral, decimal_nonempty, first_decimal, decimal_digit, decimal-digits_value, IsAscii-decimal, parse-decimal, decimal_injective}
 use Rattle.std.proofs.lemmas.Str.{IsUtf8-from_ascii}
 use Rattle.std.proofs.lemmas.Str.Parse.{IsNumeralModel, numerals_by_value, tells_digits, digit_at, parse_plain}
-use Rattle.sheet.specs.Sheet.{IsLength}
 use Rattle.commands.specs.Taking.{IsPlain}
 
 own : IsNumeralModel (AllDigits 10) (digits_value 10)
@@ -33,25 +32,29 @@ pub not_utf8 : (bytes : List ℕ) (n : ℕ) → n < 2 ^ 64 → ¬ IsUtf8 bytes �
 not_utf8 bytes n h p e = p (subst IsUtf8 e (IsUtf8-from_ascii (decimal n) (IsAscii-decimal n h)))
 
 -- what `parse` gives for the text of a number
-pub parsed : {E : Type 0} (bytes : List ℕ) (n : ℕ) (r : Result ℕ E) → n < 2 ^ 64 → ParsesUnsigned 64 10 bytes r → decimal n ≡ bytes → r ≡ Ok n
+pub parsed : {E : Type 0} (bytes : List ℕ) (n : ℕ) (r : Result ℕ E) → n < 2 ^ 64
+    → ParsesUnsigned 64 10 bytes r → decimal n ≡ bytes → r ≡ Ok n
 parsed bytes n r h p e = parse-decimal 64 n bytes r h h (sym e) p
 
-spelled : (E : Type 0) (bytes : List ℕ) (v : ℕ) → IsPlain bytes → OkIff (let r : Result ℕ E = Ok v in r) (AllDigits 10 bytes × (0 < length bytes) × (digits_value 10 bytes < 2 ^ 64)) (digits_value 10 bytes) → decimal v ≡ bytes
+spelled : (E : Type 0) (bytes : List ℕ) (v : ℕ) → IsPlain bytes
+    → OkIff (let r : Result ℕ E = Ok v in r) (AllDigits 10 bytes × (0 < length bytes) × (digits_value 10 bytes < 2 ^ 64)) (digits_value 10 bytes)
+    → decimal v ≡ bytes
 spelled E bytes v p h = ap decimal h.1 ∙ decimal-digits_value own bytes h.0.0 h.0.1 p.zeros h.0.2
 
 -- a number that `parse` gives for plain bytes has them as its text
-pub spells : {E : Type 0} (bytes : List ℕ) (v : ℕ) (r : Result ℕ E) → IsPlain bytes → r ≡ Ok v → ParsesUnsigned 64 10 bytes r → decimal v ≡ bytes
+pub spells : {E : Type 0} (bytes : List ℕ) (v : ℕ) (r : Result ℕ E) → IsPlain bytes → r ≡ Ok v
+    → ParsesUnsigned 64 10 bytes r → decimal v ≡ bytes
 spells {E = E} bytes v r p e h =
     spelled E bytes v p
     (subst (λ (x : Result ℕ E). OkIff x (AllDigits 10 bytes × (0 < length bytes) × (digits_value 10 bytes < 2 ^ 64)) (digits_value 10 bytes)) e (parse_plain own 64 bytes r h p.sign))
 
--- zero is no width and no height
-pub no_length : (bytes : List ℕ) (v : ℕ) → v ≤ 8 → decimal v ≡ bytes → v ≤ 0 → (n : ℕ) → IsLength n → decimal n ≢ bytes
-no_length bytes v h d z n l e =
-    let high : 8 < 2 ^ 64 = lit< tt in
-    let low = l.0 in
-    let top = l.1 in
-    let m : n < 2 ^ 64 = omega arith in
-    let k : v < 2 ^ 64 = omega arith in
-    let f = decimal_injective n v m k (e ∙ sym d) in
+-- a number below the limits is none within them
+pub not_within : (bytes : List ℕ) (v low most : ℕ) → most < 2 ^ 64 → v ≤ most → decimal v ≡ bytes → v < low
+    → (n : ℕ) → (low ≤ n) × (n ≤ most) → decimal n ≢ bytes
+not_within bytes v low most m h d b n l e =
+    let from = l.0 in
+    let to = l.1 in
+    let p : n < 2 ^ 64 = omega arith in
+    let q : v < 2 ^ 64 = omega arith in
+    let f = decimal_injective n v p q (e ∙ sym d) in
     omega arith

@@ -15,11 +15,11 @@ use Rattle.pattern.specs.NativeText.{letter}
 use Rattle.dialogue.specs.Names.{IsName}
 use Rattle.dialogue.specs.Revs.{last_rev}
 use Rattle.commands.specs.Spelling.{verb_text, mark_letter, IsWho, rev_text, who_text}
-use Rattle.commands.specs.Fields.{Spells, AVerb, AName, AWho, AColour, AMark, ADirection, ALength}
+use Rattle.commands.specs.Fields.{Spells, AVerb, AName, AWho, AColour, AMark, ADirection, ANumber, ALength}
 use Rattle.commands.specs.declared.who.Who.{Who}
 use Rattle.commands.specs.declared.verb.Verb.{Verb}
 use Rattle.commands.specs.declared.verb.Verb.TheVariants as verb
-use Rattle.commands.proofs.Solid.{same_heads}
+use Rattle.lines.proofs.callers.Elements.{same_heads}
 use Rattle.commands.proofs.Whos.{is_at, at_behind, no_at, take_all, drop_all}
 
 -- bytes are read as one value, or are wrong for one reason
@@ -43,6 +43,8 @@ verb_of bytes =
     (cond (bytes_eq bytes (codes "faults")) verb.Faults
     (cond (bytes_eq bytes (codes "vertex")) verb.Vertex
     (cond (bytes_eq bytes (codes "pattern")) verb.Pattern
+    (cond (bytes_eq bytes (codes "cp")) verb.Cp
+    (cond (bytes_eq bytes (codes "fold")) verb.Fold
     (cond (bytes_eq bytes (codes "draw")) verb.Draw
     (cond (bytes_eq bytes (codes "erase")) verb.Erase
     (cond (bytes_eq bytes (codes "recolour")) verb.Recolour
@@ -51,9 +53,10 @@ verb_of bytes =
     (cond (bytes_eq bytes (codes "bisect")) verb.Bisect
     (cond (bytes_eq bytes (codes "mirror")) verb.Mirror
     (cond (bytes_eq bytes (codes "rabbit-ear")) verb.RabbitEar
+    (cond (bytes_eq bytes (codes "import")) verb.Import
     (cond (bytes_eq bytes (codes "undo")) verb.Undo
     (cond (bytes_eq bytes (codes "redo")) verb.Redo
-    verb.New))))))))))))))
+    verb.New)))))))))))))))))
 
 verb_again : (v : Verb) → verb_of (verb_text v) ≡ v
 unfolding verb_of
@@ -63,6 +66,9 @@ verb_again verb.Show = refl
 verb_again verb.Faults = refl
 verb_again verb.Vertex = refl
 verb_again verb.Pattern = refl
+verb_again verb.Cp = refl
+verb_again verb.Fold = refl
+verb_again verb.Import = refl
 verb_again verb.Draw = refl
 verb_again verb.Erase = refl
 verb_again verb.Recolour = refl
@@ -109,6 +115,9 @@ small n m h k = omega arith
 
 pub one_direction : HasOne ADirection
 one_direction = spells_one (λ k. k < 16) decimal (λ m n h k e. decimal_injective m n (small m 16 (omega arith) (lit< tt)) (small n 16 (omega arith) (lit< tt)) e)
+
+pub one_number : (low most : ℕ) → most < 2 ^ 64 → HasOne (ANumber low most)
+one_number low most l = spells_one (λ n. (low ≤ n) × (n ≤ most)) decimal (λ m n h k e. decimal_injective m n (small m most h.1 l) (small n most k.1 l) e)
 
 pub one_length : HasOne ALength
 one_length = spells_one IsLength decimal (λ m n h k e. decimal_injective m n (small m 8 h.1 (lit< tt)) (small n 8 k.1 (lit< tt)) e)

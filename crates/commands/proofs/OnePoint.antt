@@ -8,7 +8,7 @@ use Rattle.qroot2.specs.Digits.{Lacks}
 use Rattle.qroot2.specs.declared.text.NumText.{NumText}
 use Rattle.qroot2.specs.declared.text.NumText.TheVariants.{Syntax, Range}
 use Rattle.plane.specs.PointReads.{ReadsPoint}
-use Rattle.commands.proofs.Solid.{same_heads, same_tails}
+use Rattle.lines.proofs.callers.Elements.{same_heads, same_tails}
 
 -- a text is that of one number
 abbrev pub HasOneNumber : Type 0

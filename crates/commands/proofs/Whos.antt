@@ -11,7 +11,7 @@ use Rattle.commands.specs.Spelling.{rev_text, who_text}
 use Rattle.commands.specs.Fields.{AWho}
 use Rattle.commands.specs.Taking.{ReadsOption, HasName}
 use Rattle.commands.specs.declared.who.Who.{Who}
-use Rattle.commands.proofs.Next.{placed, unplaced}
+use Rattle.lines.proofs.callers.Elements.{placed, unplaced}
 
 abbrev pub is_at : ℕ → Bool
 is_at b = b == 64

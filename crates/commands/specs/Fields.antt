@@ -1,5 +1,5 @@
 -- What the bytes of a word are read as, for each kind of word: a value, or why the word is wrong.
-use Rattle.std.specs.Prelude.{◌≡◌, ◌≢◌, ℕ, ◌<◌, List, [], ◌∷◌, Result, Ok, Err, decimal}
+use Rattle.std.specs.Prelude.{◌≡◌, ◌≢◌, ℕ, ◌<◌, ◌≤◌, List, [], ◌∷◌, Result, Ok, Err, decimal}
 use Rattle.exact.specs.Plane.{ExactPoint}
 use Rattle.qroot2.specs.declared.text.NumText.{NumText}
 use Rattle.qroot2.specs.declared.text.NumText.TheVariants.{Syntax, Range}
@@ -36,6 +36,10 @@ AMark = Spells (λ mark. Unit {0}) (λ mark. mark_letter mark ∷ [])
 
 abbrev pub ADirection : List ℕ → Result ℕ NumText → Type 0
 ADirection = Spells (λ k. k < 16) decimal
+
+-- a whole number within limits
+abbrev pub ANumber : ℕ → ℕ → List ℕ → Result ℕ NumText → Type 0
+ANumber low most = Spells (λ n. (low ≤ n) × (n ≤ most)) decimal
 
 abbrev pub ALength : List ℕ → Result ℕ NumText → Type 0
 ALength = Spells IsLength decimal

@@ -1,7 +1,8 @@
-pub mod Words
 pub mod Spelling
 pub mod Fields
 pub mod Reading
+pub mod Imports
+pub mod Gathering
 pub mod Lines
 pub mod Taking
 pub mod ReplyText

@@ -1,7 +1,7 @@
 -- The text of replies. Each line ends with a line feed.
 use Rattle.std.specs.Prelude.{ℕ, List, [], ◌∷◌, ◌++◌, length, count_by, flat_map, codes, ◌==◌}
 use Rattle.exact.specs.Plane.{ExactPoint, ExactSegment}
-use Rattle.qroot2.specs.Text.{numeral}
+use Rattle.qroot2.specs.Text.{numeral, number_text}
 use Rattle.plane.specs.PointText.{point_text}
 use Rattle.layers.specs.declared.star.Ray.{Ray}
 use Rattle.subdivide.specs.declared.edge.Edge.{Edge}
@@ -16,6 +16,8 @@ use Rattle.judge.specs.declared.verdict.Verdict.TheVariants as verdict
 use Rattle.judge.specs.declared.fault.Fault.{Fault}
 use Rattle.judge.specs.declared.report.Report.{Report}
 use Rattle.judge.specs.declared.report.Report.TheVariants as report
+use Rattle.cpfile.specs.declared.bad.CpWhy.{CpWhy}
+use Rattle.cpfile.specs.declared.bad.CpWhy.TheVariants as cp
 use Rattle.edits.specs.declared.refusal.EditBad.{EditBad}
 use Rattle.edits.specs.declared.refusal.EditBad.TheVariants as edit
 use Rattle.edits.specs.declared.refusal.PointKind.{PointKind}
@@ -175,6 +177,27 @@ edit_rest (edit.Range which) = point_name which
 edit_rest edit.NoChange = []
 edit_rest (edit.TooManyCreases count) = numeral count
 
+-- why a CP text is refused: the name of the cause, and what belongs to it
+abbrev pub cp_word : CpWhy → List ℕ
+cp_word cp.TooLong = codes "TooLong line "
+cp_word cp.Line = codes "Line line "
+cp_word (cp.NoNear field) = codes "NoNear line "
+cp_word (cp.TwoNear field first second) = codes "TwoNear line "
+cp_word cp.NotDirection = codes "NotDirection line "
+cp_word cp.InnerContour = codes "InnerContour line "
+
+abbrev pub field_text : ℕ → ℕ → List ℕ
+field_text line field = numeral line ++ (codes " field " ++ numeral field)
+
+abbrev pub cp_rest : ℕ → CpWhy → List ℕ
+cp_rest line cp.TooLong = numeral line
+cp_rest line cp.Line = numeral line
+cp_rest line (cp.NoNear field) = field_text line field
+cp_rest line (cp.TwoNear field first second) =
+    field_text line field ++ 32 ∷ (number_text first ++ 32 ∷ number_text second)
+cp_rest line cp.NotDirection = numeral line
+cp_rest line cp.InnerContour = numeral line
+
 -- why a command is refused
 abbrev pub cause_word : Cause → List ℕ
 cause_word cause.NoProject = codes "NoProject"
@@ -184,6 +207,7 @@ cause_word (cause.Stale rev) = codes "Stale "
 cause_word cause.RevFull = codes "RevFull"
 cause_word cause.NothingToUndo = codes "NothingToUndo"
 cause_word cause.NothingToRedo = codes "NothingToRedo"
+cause_word (cause.Cp bad) = cp_word bad.why
 cause_word (cause.Edit bad) = edit_word bad
 cause_word cause.NoVertex = codes "NoVertex"
 
@@ -195,6 +219,7 @@ cause_rest (cause.Stale rev) = numeral rev
 cause_rest cause.RevFull = []
 cause_rest cause.NothingToUndo = []
 cause_rest cause.NothingToRedo = []
+cause_rest (cause.Cp bad) = cp_rest bad.line bad.why
 cause_rest (cause.Edit bad) = edit_rest bad
 cause_rest cause.NoVertex = []
 
@@ -209,9 +234,15 @@ counted_line word rev count = word ++ (32 ∷ (numeral rev ++ 32 ∷ (numeral co
 abbrev pub numbered_line : List ℕ → ℕ → List ℕ
 numbered_line word number = word ++ (32 ∷ (numeral number ++ 10 ∷ []))
 
+-- a rev, how many lines are drawn, and how many are dropped
+abbrev pub imported_line : ℕ → ℕ → ℕ → List ℕ
+imported_line rev drawn dropped =
+    codes "imported " ++ numeral rev ++ 32 ∷ (numeral drawn ++ 32 ∷ (numeral dropped ++ 10 ∷ []))
+
 -- what is written for a reply
 abbrev pub reply_text : Reply → List ℕ
 reply_text (reply.Done rev) = numbered_line (codes "done") rev
+reply_text (reply.Imported rev drawn dropped) = imported_line rev drawn dropped
 reply_text (reply.Shown rev s) = shown_text rev s.vertices s.edges
 reply_text (reply.Faults rev list) = counted_line (codes "faults") rev (length list) ++ fault_lines list
 reply_text (reply.Vertex at r) = vertex_head at ++ report_end r

@@ -1,41 +1,13 @@
 -- What the reader of words knows when it has taken one.
-use Rattle.std.specs.Prelude.{◌≡◌, ◌≢◌, ℕ, ◌+◌, ◌-◌, ◌<◌, ◌⊎◌, Bool, true, ◌||◌, cond, ◌==◌, List, [], ◌∷◌, length, Option, Some, None, Result, Ok, Err, slice_index}
+use Rattle.std.specs.Prelude.{◌≡◌, ◌≢◌, ℕ, ◌<◌, ◌⊎◌, List, [], length, Option, Some, None, Result, Ok, Err, slice_index}
 use Rattle.qroot2.specs.declared.text.NumText.{NumText}
 use Rattle.qroot2.specs.declared.text.NumText.TheVariants.{Syntax}
 use Rattle.dialogue.specs.Names.{IsName}
-use Rattle.commands.specs.Words.{Word}
-use Rattle.commands.specs.Reading.{Left, wrong_at}
+use Rattle.lines.specs.Words.{Word, Left, before}
+use Rattle.commands.specs.Reading.{wrong_at}
 use Rattle.commands.specs.declared.who.Who.{Who}
 use Rattle.commands.specs.declared.bad.BadText.{BadText}
 use Rattle.commands.specs.declared.bad.BadText.TheVariants as bad
-
-abbrev pub is_blank : ℕ → Bool
-is_blank b = (b == 32) || (b == 9)
-
--- whether no byte of a word comes first
-abbrev pub is_apart : List ℕ → Bool
-is_apart [] = true
-is_apart (b ∷ bytes) = is_blank b
-
--- a byte before the first word
-abbrev pub with_byte : ℕ → List Word → List Word
-with_byte b [] = []
-with_byte b (word ∷ words) = record { column = word.column - 1; text = b ∷ word.text } ∷ words
-
--- the words of bytes that stand behind so many others of their line
-unfoldable pub words_from : ℕ → List ℕ → List Word
-words_from at [] = []
-words_from at (b ∷ bytes) =
-    cond (is_blank b) (words_from (at + 1) bytes)
-    (cond (is_apart bytes) (record { column = at + 1; text = b ∷ [] } ∷ words_from (at + 1) bytes)
-    (with_byte b (words_from (at + 1) bytes)))
-
-abbrev pub left_of : ℕ → List ℕ → Left
-left_of at bytes = record { words = words_from at bytes; missing = at + length bytes + 1 }
-
--- with this word before them
-abbrev pub before : Word → Left → Left
-before word left = record { words = word ∷ left.words; missing = left.missing }
 
 -- reading that gives no value finds the bytes wrong
 abbrev pub ReadsOption : {A : Type 0} → (List ℕ → Result A NumText → Type 0) → List ℕ → Option A → Type 0

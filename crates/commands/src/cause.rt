@@ -1,14 +1,16 @@
 //! Why a command is refused, as it is written.
 ghost use Rattle.std.specs.Prelude.{◌≡◌, ◌≤◌, ◌++◌, ◌∷◌, length};
 ghost use Rattle.qroot2.specs.Text.{numeral};
-ghost use Rattle.commands.specs.ReplyText.{cause_word as word_of_cause, cause_rest as rest_of_cause, cut_word as word_of_cut, cut_rest as rest_of_cut, edit_word as word_of_edit, edit_rest as rest_of_edit, point_name as name_of_point, ends_text};
+ghost use Rattle.commands.specs.ReplyText.{cause_word as word_of_cause, cause_rest as rest_of_cause, cut_word as word_of_cut, cut_rest as rest_of_cut, edit_word as word_of_edit, edit_rest as rest_of_edit, cp_word as word_of_cp, cp_rest as rest_of_cp, field_text, point_name as name_of_point, ends_text};
 
 use crate::digits::digits;
 use arrayvec::ArrayVec;
+use cpfile::{CpBad, CpWhy};
 use dialogue::Cause;
 use edits::{EditBad, PointKind};
 use itoa::Buffer;
 use plane::{Seg, put_point};
+use qroot2::{Num, put_num};
 use subdivide::CutBad;
 
 /// A part of a line: at most four points, with a space between them.
@@ -29,6 +31,7 @@ pub(crate) fn cause_word(cause: &Cause) -> &'static [u8]
         Cause::RevFull => b"RevFull",
         Cause::NothingToUndo => b"NothingToUndo",
         Cause::NothingToRedo => b"NothingToRedo",
+        Cause::Cp(bad) => cp_word(&bad.why),
         Cause::Edit(bad) => edit_word(bad),
         Cause::NoVertex => b"NoVertex",
     }
@@ -41,6 +44,7 @@ pub(crate) fn cause_rest(cause: &Cause) -> Part
     match cause {
         Cause::Cut(bad) => cut_rest(bad),
         Cause::Stale { rev } => number(*rev),
+        Cause::Cp(bad) => cp_rest(bad),
         Cause::Edit(bad) => edit_rest(bad),
         Cause::NoProject
         | Cause::Exists
@@ -92,6 +96,65 @@ fn ends(seg: &Seg) -> Ends
     let _ = text.try_extend_from_slice(put_point(&seg.p()).as_slice());
     text.push(b' ');
     let _ = text.try_extend_from_slice(put_point(&seg.q()).as_slice());
+    text
+}
+
+fn cp_word(why: &CpWhy) -> &'static [u8]
+    ensures { result.now ≡ word_of_cp why.now }
+{
+    match why {
+        CpWhy::TooLong => b"TooLong line ",
+        CpWhy::Line => b"Line line ",
+        CpWhy::NoNear { field: _ } => b"NoNear line ",
+        CpWhy::TwoNear {
+            field: _,
+            first: _,
+            second: _,
+        } => b"TwoNear line ",
+        CpWhy::NotDirection => b"NotDirection line ",
+        CpWhy::InnerContour => b"InnerContour line ",
+    }
+}
+
+/// The line, and what belongs to the field.
+fn cp_rest(bad: &CpBad) -> Part
+    ensures { result.items ≡ rest_of_cp bad.now.line bad.now.why }
+{
+    match bad.why {
+        CpWhy::NoNear { field } => field_part(bad.line, field),
+        CpWhy::TwoNear {
+            field,
+            first,
+            second,
+        } => two_near(bad.line, field, &first, &second),
+        CpWhy::TooLong | CpWhy::Line | CpWhy::NotDirection | CpWhy::InnerContour => number(
+            bad.line,
+        ),
+    }
+}
+
+/// The numbers of a line and of its field.
+fn field_part(line: u64, field: u8) -> Part
+    ensures text { result.items ≡ field_text line field }
+    ensures short { length result.items ≤ 87 }
+{
+    let (mut first, mut second) = (Buffer::new(), Buffer::new());
+    let mut text = Part::new();
+    let _ = text.try_extend_from_slice(digits(&mut first, line));
+    let _ = text.try_extend_from_slice(b" field ");
+    let _ = text.try_extend_from_slice(digits(&mut second, u64::from(field)));
+    text
+}
+
+/// The same, with two numbers behind it.
+fn two_near(line: u64, field: u8, first: &Num, second: &Num) -> Part
+    ensures { result.items ≡ rest_of_cp line (CpWhy.TwoNear field first.now second.now) }
+{
+    let mut text = field_part(line, field);
+    text.push(b' ');
+    let _ = text.try_extend_from_slice(put_num(first).as_slice());
+    text.push(b' ');
+    let _ = text.try_extend_from_slice(put_num(second).as_slice());
     text
 }
 

@@ -1,10 +1,12 @@
 //! Digits and letters.
 ghost use Rattle.std.specs.Prelude.{◌≡◌, ◌≤◌, length};
 ghost use Rattle.qroot2.specs.Text.{numeral};
+ghost use Rattle.plane.specs.PointText.{point_text};
 ghost use Rattle.commands.specs.Spelling.{mark_letter as mark_letter_of};
 ghost use Rattle.commands.specs.ReplyText.{kind_letter as kind_letter_of, line_count};
 
 use itoa::Buffer;
+use plane::{Point, put_point};
 use sheet::Mark;
 use subdivide::EdgeKind;
 
@@ -15,6 +17,23 @@ pub(crate) fn digits(buffer: &mut Buffer, number: u64) -> &[u8]
     ensures short { length result.now ≤ 40 }
 {
     buffer.format(number).as_bytes()
+}
+
+/// How many digits a number has.
+pub(crate) fn digits_len(number: u64) -> u64
+    ensures len { result ≡ length (numeral number) }
+    ensures short { result ≤ 40 }
+{
+    let mut buffer = Buffer::new();
+    digits(&mut buffer, number).len() as u64
+}
+
+/// How long the text of a point is.
+pub(crate) fn point_len(point: &Point) -> u64
+    ensures len { result ≡ length (point_text point.now) }
+    ensures short { result ≤ 83 }
+{
+    put_point(point).as_slice().len() as u64
 }
 
 /// How many line feeds there are.

@@ -1,18 +1,26 @@
 //! The next word of a line as what it has to be.
-ghost use Rattle.std.specs.Prelude.{IfOk, IfErr};
-ghost use Rattle.commands.specs.Fields.{AVerb, AName, AWho, AColour, AMark, ADirection, ALength, APoint};
+ghost use Rattle.std.specs.Prelude.{◌≡◌, IfOk, IfErr};
+ghost use Rattle.commands.specs.Fields.{AVerb, AName, AWho, AColour, AMark, ADirection, ANumber, ALength, APoint};
+ghost use Rattle.commands.specs.Reading.{first_column};
 ghost use Rattle.commands.specs.Taking.{IsTaken, IsWrong};
 
 use crate::BadText;
 use crate::letter::{read_colour, read_mark};
-use crate::number::{read_direction, read_length};
+use crate::number::{read_direction, read_length, read_within};
 use crate::verb::{Verb, read_verb};
 use crate::who::{Who, read_who};
-use crate::words::Words;
+use crate::words::{Words, syntax};
 use dialogue::Name;
 use plane::{Point, read_point};
 use qroot2::{Dir, NumText};
 use sheet::{Colour, Mark};
+
+/// How many lines are to come, and the column of the word that says so.
+#[derive(Clone, Copy)]
+pub(crate) struct Count {
+    pub(crate) lines: u32,
+    pub(crate) column: u64,
+}
 
 impl<'a> Words<'a> {
     /// Takes what is to be done.
@@ -21,7 +29,7 @@ impl<'a> Words<'a> {
         ensures wrong { IfErr result (IsWrong AVerb self.old) }
     {
         let word = self.take()?;
-        read_verb(word.text).ok_or(word.syntax())
+        read_verb(word.text).ok_or(syntax(&word))
     }
 
     /// Takes the name of a project.
@@ -30,7 +38,7 @@ impl<'a> Words<'a> {
         ensures wrong { IfErr result (IsWrong AName self.old) }
     {
         let word = self.take()?;
-        Name::new(word.text).ok().ok_or(word.syntax())
+        Name::new(word.text).ok().ok_or(syntax(&word))
     }
 
     /// Takes the project of a change.
@@ -39,7 +47,7 @@ impl<'a> Words<'a> {
         ensures wrong { IfErr result (IsWrong AWho self.old) }
     {
         let word = self.take()?;
-        read_who(word.text).ok_or(word.syntax())
+        read_who(word.text).ok_or(syntax(&word))
     }
 
     /// Takes a colour.
@@ -48,7 +56,7 @@ impl<'a> Words<'a> {
         ensures wrong { IfErr result (IsWrong AColour self.old) }
     {
         let word = self.take()?;
-        read_colour(word.text).ok_or(word.syntax())
+        read_colour(word.text).ok_or(syntax(&word))
     }
 
     /// Takes a mark.
@@ -57,7 +65,7 @@ impl<'a> Words<'a> {
         ensures wrong { IfErr result (IsWrong AMark self.old) }
     {
         let word = self.take()?;
-        read_mark(word.text).ok_or(word.syntax())
+        read_mark(word.text).ok_or(syntax(&word))
     }
 
     /// Takes a direction.
@@ -66,7 +74,32 @@ impl<'a> Words<'a> {
         ensures wrong { IfErr result (IsWrong ADirection self.old) }
     {
         let word = self.take()?;
-        read_direction(word.text).ok_or(word.syntax())
+        read_direction(word.text).ok_or(syntax(&word))
+    }
+
+    /// Takes a whole number within limits.
+    pub(crate) fn number(&mut self, low: u32, most: u32) -> Result<u32, BadText>
+        ensures right { IfOk result (λ a. IsTaken (ANumber low most) self.old a self.new) }
+        ensures wrong { IfErr result (IsWrong (ANumber low most) self.old) }
+    {
+        let word = self.take()?;
+        read_within(word.text, low, most).ok_or(syntax(&word))
+    }
+
+    /// Takes how many lines are to come.
+    pub(crate) fn count(&mut self) -> Result<Count, BadText>
+        ensures right { IfOk result (λ count. IsTaken (ANumber 0 40000) self.old count.lines self.new) }
+        ensures column { IfOk result (λ count. count.column ≡ first_column self.old.words) }
+        ensures wrong { IfErr result (IsWrong (ANumber 0 40000) self.old) }
+    {
+        let word = self.take()?;
+        match read_within(word.text, 0, 40_000) {
+            Some(lines) => Ok(Count {
+                lines,
+                column: word.column,
+            }),
+            None => Err(syntax(&word)),
+        }
     }
 
     /// Takes a width or a height.
@@ -75,7 +108,7 @@ impl<'a> Words<'a> {
         ensures wrong { IfErr result (IsWrong ALength self.old) }
     {
         let word = self.take()?;
-        read_length(word.text).ok_or(word.syntax())
+        read_length(word.text).ok_or(syntax(&word))
     }
 
     /// Takes a point.
@@ -86,7 +119,7 @@ impl<'a> Words<'a> {
         let word = self.take()?;
         match read_point(word.text) {
             Ok(point) => Ok(point),
-            Err(NumText::Syntax) => Err(word.syntax()),
+            Err(NumText::Syntax) => Err(syntax(&word)),
             Err(NumText::Range) => Err(BadText::Range {
                 column: word.column,
             }),

@@ -1,15 +1,17 @@
 //! The texts of commands, read, and those of replies, written.
 #![tactic(auto)]
 
+mod ask;
 mod asked;
 mod bad;
 mod block;
 mod cause;
 mod digits;
 mod fields;
+mod gather;
 mod laws;
+mod length;
 mod letter;
-mod line;
 mod number;
 mod read;
 mod reply;
@@ -20,8 +22,10 @@ mod words;
 mod written;
 
 pub use bad::BadText;
-pub use laws::reading_is_one;
-pub use read::read_command;
+pub use laws::{reading_is_one, wanted_is_one};
+pub use length::reply_len;
+pub use number::read_number;
+pub use read::{lines_wanted, read_command};
 pub use reply::{write_bad, write_reply};
 
 #[cfg(test)]

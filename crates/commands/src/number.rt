@@ -1,13 +1,13 @@
 //! Digit strings.
 ghost use Rattle.std.specs.Prelude.{◌≤◌, ◌↔◌, IsTrue, decimal};
-ghost use Rattle.commands.specs.Fields.{Spells, ADirection, ALength};
+ghost use Rattle.commands.specs.Fields.{Spells, ADirection, ANumber, ALength};
 ghost use Rattle.commands.specs.Taking.{IsPlain, ReadsOption};
 
 use qroot2::Dir;
 use std::str;
 
 /// The number up to `most` that the bytes spell: a digit string with no leading zero but `0` itself.
-pub(crate) fn read_number(bytes: &[u8], most: u64) -> Option<u64>
+pub fn read_number(bytes: &[u8], most: u64) -> Option<u64>
     ensures { ReadsOption (Spells (λ n. n ≤ most) decimal) bytes.now result }
 {
     match str::from_utf8(bytes) {
@@ -47,10 +47,21 @@ pub(crate) fn read_direction(bytes: &[u8]) -> Option<Dir>
     Dir::new(read_number(bytes, 15)? as u8)
 }
 
+/// The whole number from `low` to `most` that the bytes spell.
+pub(crate) fn read_within(bytes: &[u8], low: u32, most: u32) -> Option<u32>
+    ensures { ReadsOption (ANumber low most) bytes.now result }
+{
+    let number = read_number(bytes, u64::from(most))?;
+    if number >= u64::from(low) {
+        Some(number as u32)
+    } else {
+        None
+    }
+}
+
 /// The width or the height that the bytes spell, from 1 to 8.
 pub(crate) fn read_length(bytes: &[u8]) -> Option<u8>
     ensures { ReadsOption ALength bytes.now result }
 {
-    let length = read_number(bytes, 8)?;
-    if length > 0 { Some(length as u8) } else { None }
+    Some(read_within(bytes, 1, 8)? as u8)
 }

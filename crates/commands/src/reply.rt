@@ -2,7 +2,7 @@
 ghost use Rattle.std.specs.Prelude.{◌≡◌, ◌++◌, codes, length};
 ghost use Rattle.ports.specs.Streams.{HasCause, Puts};
 ghost use Rattle.commands.specs.Blocks.{Adds};
-ghost use Rattle.commands.specs.ReplyText.{reply_text, bad_text, refused_text, cause_text, shown_text, shown_line, vertex_lines, edge_lines, counted_line, numbered_line, fault_lines, name_lines, line_count};
+ghost use Rattle.commands.specs.ReplyText.{reply_text, bad_text, refused_text, cause_text, shown_text, shown_line, imported_line, vertex_lines, edge_lines, counted_line, numbered_line, fault_lines, name_lines, line_count};
 
 use crate::BadText;
 use crate::block::{Block, add, add_all};
@@ -68,6 +68,11 @@ fn add_reply<W: Sink>(sink: &mut W, block: &mut Block, reply: &Reply) -> Result<
 {
     match reply {
         Reply::Done { rev } => add_numbered(sink, block, b"done", *rev),
+        Reply::Imported {
+            rev,
+            drawn,
+            dropped,
+        } => add_imported(sink, block, *rev, *drawn, *dropped),
         Reply::Shown { rev, subdivision } => add_shown(sink, block, *rev, subdivision),
         Reply::Faults { rev, list } => add_faults(sink, block, *rev, list.as_slice()),
         Reply::Vertex { at, report } => add_vertex(sink, block, at, report),
@@ -76,6 +81,34 @@ fn add_reply<W: Sink>(sink: &mut W, block: &mut Block, reply: &Reply) -> Result<
         Reply::Refused(cause) => add_refusal(sink, block, cause),
         Reply::KeeperFailed => add_all(sink, block, &[b"keeper-failed", b"\n"]),
     }
+}
+
+fn add_imported<W: Sink>(
+    sink: &mut W,
+    block: &mut Block,
+    rev: u64,
+    drawn: u64,
+    dropped: u64,
+) -> Result<(), Failed>
+    ensures bytes { Adds (W.held sink.old) block.old.items (W.held sink.new) block.new.items
+        (imported_line rev drawn dropped) result }
+    ensures cause { HasCause (W.faults sink.old) (W.faults sink.new) result }
+    ensures aside { W.aside sink.new ≡ W.aside sink.old }
+{
+    let (mut first, mut second, mut third) = (Buffer::new(), Buffer::new(), Buffer::new());
+    add_all(
+        sink,
+        block,
+        &[
+            b"imported ",
+            digits(&mut first, rev),
+            b" ",
+            digits(&mut second, drawn),
+            b" ",
+            digits(&mut third, dropped),
+            b"\n",
+        ],
+    )
 }
 
 fn add_shown<W: Sink>(

@@ -1,6 +1,7 @@
 //! Texts of replies, spelled by hand.
 
-use crate::{BadText, write_bad, write_reply};
+use crate::{BadText, reply_len, write_bad, write_reply};
+use cpfile::{CpBad, CpWhy};
 use crimp::Run;
 use dialogue::{Cause, Name, Reply};
 use edits::{EditBad, PointKind};
@@ -15,13 +16,13 @@ use std::alloc::Global;
 use std::test::Fail;
 use subdivide::{CutBad, scratch};
 
-/// Whether this is written for a reply.
+/// Whether this is written for a reply, and is as long as the reply says.
 fn says(alloc: Global, reply: &Reply, text: &[u8]) -> Result<bool, Fail> {
     let mut sink = MemSink::new(Vec::with_capacity(alloc, 9000)?, 9000, Vec::new(alloc));
     if write_reply(&mut sink, reply).is_err() {
         return Err(Fail::from("put"));
     }
-    Ok(sink.bytes() == text)
+    Ok(sink.bytes() == text && reply_len(reply) == text.len() as u128)
 }
 
 fn refuses(alloc: Global, cause: Cause, text: &[u8]) -> Result<bool, Fail> {
@@ -182,7 +183,14 @@ fn vertices(rt: HostRuntime) -> Result<(), Fail> {
             b"vertex 1/2,1/2 rays 2M 6M 10M 14V passed 1 2 3 0\n"
         )?
     );
-    let Some(star) = Star::new(&rays[..1]) else {
+    Ok(())
+}
+
+#[test]
+fn vertices_that_do_not_pass(rt: HostRuntime) -> Result<(), Fail> {
+    let alloc = rt.alloc();
+    let at = point(b"1/2,1/2")?;
+    let Some(star) = Star::new(&[ray(2, Mark::M)?]) else {
         return Err(Fail::from("star"));
     };
     let why = Why::Kawasaki {
@@ -209,5 +217,42 @@ fn vertices(rt: HostRuntime) -> Result<(), Fail> {
             b"vertex 1/2,1/2 border\n"
         )?
     );
+    Ok(())
+}
+
+#[test]
+fn imports(rt: HostRuntime) -> Result<(), Fail> {
+    let alloc = rt.alloc();
+    let reply = Reply::Imported {
+        rev: 3,
+        drawn: 40_000,
+        dropped: 12,
+    };
+    assert!(rt; says(alloc, &reply, b"imported 3 40000 12\n")?);
+    Ok(())
+}
+
+fn refuses_line(alloc: Global, line: u64, why: CpWhy, text: &[u8]) -> Result<bool, Fail> {
+    refuses(alloc, Cause::Cp(CpBad { line, why }), text)
+}
+
+#[test]
+fn texts_that_are_not_imported(rt: HostRuntime) -> Result<(), Fail> {
+    let alloc = rt.alloc();
+    assert!(rt; refuses_line(alloc, 7, CpWhy::TooLong, b"refused TooLong line 7\n")?);
+    assert!(rt; refuses_line(alloc, 1, CpWhy::Line, b"refused Line line 1\n")?);
+    let none = CpWhy::NoNear { field: 5 };
+    assert!(rt; refuses_line(alloc, 12, none, b"refused NoNear line 12 field 5\n")?);
+    let ends = point(b"0,1r/64")?;
+    let two = CpWhy::TwoNear {
+        field: 2,
+        first: ends.x,
+        second: ends.y,
+    };
+    assert!(rt; refuses_line(alloc, 2, two, b"refused TwoNear line 2 field 2 0 1r/64\n")?);
+    let turn = CpWhy::NotDirection;
+    assert!(rt; refuses_line(alloc, 3, turn, b"refused NotDirection line 3\n")?);
+    let inner = CpWhy::InnerContour;
+    assert!(rt; refuses_line(alloc, 4, inner, b"refused InnerContour line 4\n")?);
     Ok(())
 }

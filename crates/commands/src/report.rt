@@ -5,7 +5,8 @@ ghost use Rattle.commands.specs.Blocks.{Adds};
 ghost use Rattle.commands.specs.ReplyText.{fault_line, fault_head, why_word as word_of, why_end, verdict_end, report_end, vertex_head};
 
 use crate::block::{Block, add, add_all};
-use crate::digits::digits;
+use crate::digits::{digits, point_len};
+use crate::length::why_len;
 use crate::written::{Written, add_each};
 use crimp::Run;
 use itoa::Buffer;
@@ -21,6 +22,10 @@ impl Written for Fault {
     fn add_to<W: Sink>(&self, sink: &mut W, block: &mut Block) -> Result<(), Failed> {
         add_fault_head(sink, block, self)?;
         add_why_end(sink, block, &self.why)
+    }
+
+    fn text_len(&self) -> u64 {
+        point_len(&self.at) + why_len(&self.why) + 4
     }
 }
 

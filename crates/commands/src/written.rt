@@ -1,11 +1,11 @@
 //! What is written for each of several.
-ghost use Rattle.std.specs.Prelude.{◌≡◌, ℕ, List, flat_map};
+ghost use Rattle.std.specs.Prelude.{◌≡◌, ◌≤◌, ◌^◌, ℕ, List, flat_map, length};
 ghost use Rattle.ports.specs.Streams.{HasCause};
 ghost use Rattle.commands.specs.Blocks.{Adds};
 ghost use Rattle.commands.specs.ReplyText.{vertex_line, edge_line, name_line, sector_text, ray_text};
 
 use crate::block::{Block, add_all};
-use crate::digits::{digits, kind_letter, mark_letter};
+use crate::digits::{digits, digits_len, kind_letter, mark_letter, point_len};
 use dialogue::Name;
 use itoa::Buffer;
 use layers::Ray;
@@ -24,6 +24,11 @@ pub(crate) trait Written {
             (text self.now) result }
         ensures cause { HasCause (W.faults sink.old) (W.faults sink.new) result }
         ensures aside { W.aside sink.new ≡ W.aside sink.old };
+
+    /// How long the text is.
+    fn text_len(&self) -> u64
+        ensures len { result ≡ length (text self.now) }
+        ensures short { result ≤ 1000 };
 }
 
 /// Adds the text of each, one after another.
@@ -43,12 +48,28 @@ pub(crate) fn add_each<W: Sink, T: Written>(
     Ok(())
 }
 
+/// How long the texts of all are.
+pub(crate) fn total_len<T: Written>(items: &[T]) -> u128
+    ensures len { result ≡ length (flat_map T.text items.now) }
+    ensures small { result ≤ 2 ^ 80 }
+{
+    let mut total = 0;
+    for item in items {
+        total += u128::from(item.text_len());
+    }
+    total
+}
+
 /// A vertex has a line.
 impl Written for Point {
     ghost text = { vertex_line };
 
     fn add_to<W: Sink>(&self, sink: &mut W, block: &mut Block) -> Result<(), Failed> {
         add_all(sink, block, &[b"v ", put_point(self).as_slice(), b"\n"])
+    }
+
+    fn text_len(&self) -> u64 {
+        point_len(self) + 3
     }
 }
 
@@ -71,6 +92,10 @@ impl Written for Edge {
             ],
         )
     }
+
+    fn text_len(&self) -> u64 {
+        digits_len(u64::from(self.from)) + digits_len(u64::from(self.to)) + 6
+    }
 }
 
 impl Written for Name {
@@ -78,6 +103,10 @@ impl Written for Name {
 
     fn add_to<W: Sink>(&self, sink: &mut W, block: &mut Block) -> Result<(), Failed> {
         add_all(sink, block, &[self.text().as_bytes(), b"\n"])
+    }
+
+    fn text_len(&self) -> u64 {
+        self.text().len() as u64 + 1
     }
 }
 
@@ -97,6 +126,10 @@ impl Written for Ray {
             ],
         )
     }
+
+    fn text_len(&self) -> u64 {
+        digits_len(u64::from(self.dir.number())) + 2
+    }
 }
 
 /// The number of a sector stands behind a space.
@@ -106,5 +139,9 @@ impl Written for u8 {
     fn add_to<W: Sink>(&self, sink: &mut W, block: &mut Block) -> Result<(), Failed> {
         let mut number = Buffer::new();
         add_all(sink, block, &[b" ", digits(&mut number, u64::from(*self))])
+    }
+
+    fn text_len(&self) -> u64 {
+        digits_len(u64::from(*self)) + 1
     }
 }

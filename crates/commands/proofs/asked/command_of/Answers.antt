@@ -19,6 +19,12 @@ returns-in-Vertex c = by_verb _ _ c.in-Vertex.is c.vertex.ensures
 pub returns-in-Pattern : goal.returns-in-Pattern
 returns-in-Pattern c = by_verb _ _ c.in-Pattern.is c.pattern.ensures
 
+pub returns-in-Cp : goal.returns-in-Cp
+returns-in-Cp c = by_verb _ _ c.in-Cp.is c.cp.ensures
+
+pub returns-in-Fold : goal.returns-in-Fold
+returns-in-Fold c = by_verb _ _ c.in-Fold.is c.fold.ensures
+
 pub returns-in-Draw : goal.returns-in-Draw
 returns-in-Draw c = by_verb _ _ c.in-Draw.is c.draw.ensures
 
@@ -42,6 +48,9 @@ returns-in-Mirror c = by_verb _ _ c.in-Mirror.is c.mirror.ensures
 
 pub returns-in-RabbitEar : goal.returns-in-RabbitEar
 returns-in-RabbitEar c = by_verb _ _ c.in-RabbitEar.is c.rabbit_ear.ensures
+
+pub returns-in-Import : goal.returns-in-Import
+returns-in-Import c = by_verb _ _ c.in-Import.is c.import.ensures
 
 pub returns-in-Undo : goal.returns-in-Undo
 returns-in-Undo c = by_verb _ _ c.in-Undo.is c.undo.ensures

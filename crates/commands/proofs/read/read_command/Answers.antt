@@ -1,26 +1,17 @@
-use Rattle.std.proofs.Common.{arith}
-use Rattle.std.proofs.lemmas.Result.{err_from_is_err_and}
-use Rattle.commands.proofs.Commands.{silent, too_long, wrong_words, more_lines, one_command, some_after, none_after}
+use Rattle.std.proofs.Common.{refl}
+use Rattle.std.specs.Prelude.{Ok, Err}
+use Rattle.commands.specs.declared.ask.Asked.TheVariants as asked
+use Rattle.commands.proofs.Commands.{complete, completed}
 use Rattle.commands.proofs.read.read_command.Goals as goal
 
-pub returns-then-is_silent : goal.returns-then-is_silent
-returns-then-is_silent c = silent c.args.text.now c.first_line.result.0.now c.first_line.result.1.now c.first_line.ensures (c.is_silent.ensures.0 c.if-is_silent.true)
+pub returns-in-Ok-Command : goal.returns-in-Ok-Command
+returns-in-Ok-Command c = completed c.args.text.now c.first_line.result.0.now c.first_line.result.1.now c.of.result.words (Ok (asked.Command c.in-Ok-Command.command)) c.alone.result
+    c.first_line.ensures c.of.ensures.all (λ h. (let k = c.is_silent.ensures.1 h in cc)) (rw (c.in-Ok-Command.is, c.in-Ok-Command.field-0-is) at c.read_line.ensures) c.alone.ensures
 
-pub returns-then-line-gt-LINE_LIMIT : goal.returns-then-line-gt-LINE_LIMIT
-returns-then-line-gt-LINE_LIMIT c = too_long c.args.text.now c.first_line.result.0.now c.first_line.result.1.now c.first_line.ensures
-    (λ h. (let k = c.is_silent.ensures.1 h in cc)) (omega arith)
+pub returns-in-Ok-Import : goal.returns-in-Ok-Import
+returns-in-Ok-Import c = completed c.args.text.now c.first_line.result.0.now c.first_line.result.1.now c.of.result.words (Ok (asked.Import c.in-Ok-Import.import)) c.whole_import.result
+    c.first_line.ensures c.of.ensures.all (λ h. (let k = c.is_silent.ensures.1 h in cc)) (rw (c.in-Ok-Import.is, c.in-Ok-Import.field-0-is) at c.read_line.ensures) c.whole_import.ensures
 
-pub returns-in_err-command : goal.returns-in_err-command
-returns-in_err-command c = let p = err_from_is_err_and c.from_residual.result c.from_residual.ensures.1 in
-    rw (p.1, p.2) (wrong_words c.args.text.now c.first_line.result.0.now c.first_line.result.1.now _ c.first_line.ensures
-    (λ h. (let k = c.is_silent.ensures.1 h in cc)) (omega arith) (rw c.of.ensures at c.in_err-command.ensures))
-
-pub returns-then-not-is_empty : goal.returns-then-not-is_empty
-returns-then-not-is_empty c = more_lines c.args.text.now c.first_line.result.0.now c.first_line.result.1.now c.in_ok-command.command c.first_line.ensures
-    (λ h. (let k = c.is_silent.ensures.1 h in cc)) (omega arith) (rw c.of.ensures at c.in_ok-command.ensures)
-    (some_after c.first_line.result.1.now c.is_empty.result c.is_empty.ensures c.if-not-is_empty.true)
-
-pub returns : goal.returns
-returns c = one_command c.args.text.now c.first_line.result.0.now c.first_line.result.1.now c.in_ok-command.command c.first_line.ensures
-    (λ h. (let k = c.is_silent.ensures.1 h in cc)) (omega arith) (rw c.of.ensures at c.in_ok-command.ensures)
-    (none_after c.first_line.result.1.now c.is_empty.result c.is_empty.ensures c.if-not-is_empty.false)
+pub returns-in-Err : goal.returns-in-Err
+returns-in-Err c = complete c.args.text.now c.first_line.result.0.now c.first_line.result.1.now c.of.result.words (Err c.in-Err.bad) (Err c.in-Err.bad)
+    c.first_line.ensures c.of.ensures.all (λ h. (let k = c.is_silent.ensures.1 h in cc)) (rw (c.in-Err.is) at c.read_line.ensures) refl
