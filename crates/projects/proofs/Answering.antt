@@ -1,7 +1,6 @@
 -- What a call of the desk says of the tables, by what each call of the keeper says.
-use Rattle.std.proofs.Common.{◌≡◌, ℕ, ◌+◌, ◌<◌, ◌≤◌, ◌⊎◌, inl, inr, arith, List, Bool, true, false, refl, sym, ap, subst, ◌∙◌}
+use Rattle.std.proofs.Common.{◌≡◌, ℕ, ◌<◌, ◌≤◌, inl, inr, arith, List, true, false, refl, sym, ap, subst, ◌∙◌}
 use Rattle.std.specs.Prelude.{Option, Some, None, IsSome, Result, Ok, Err}
-use Rattle.std.specs.Map.{keys_of}
 use Rattle.sheet.specs.Sheet.{ExactSheet}
 use Rattle.sheet.specs.Pattern.{ExactPattern}
 use Rattle.ports.specs.Streams.{Rose}
@@ -15,16 +14,17 @@ use Rattle.dialogue.specs.declared.reply.Reply.{Reply}
 use Rattle.dialogue.specs.declared.reply.Reply.TheVariants as reply
 use Rattle.projects.specs.Projects.{ExactProject, empty_project, last_rev}
 use Rattle.projects.specs.Steps.{StepFits, Stepped}
-use Rattle.projects.specs.Tables.{Tables, names_of, project_at, with_project, Created, Committed, CanCommit, IsCommitted}
+use Rattle.projects.specs.Tables.{Tables, names_of, project_at, Created, CanCommit, IsCommitted}
 use Rattle.projects.specs.Keeping.{Tells, AreTold, FailsWhereRose}
 use Rattle.projects.specs.Entries.{Entry, Entries, StandsFor, StandFor, entry_at, with_entry, fresh}
-use Rattle.projects.specs.Machine.{Said, told, done, Under, Asked, Changed, Answered, StepOrFault}
+use Rattle.projects.specs.Machine.{Made, Said, told, done, Under, Asked, Changed, Answered}
 use Rattle.projects.specs.Ends.{of_keeper, EndsBy, Answers}
 use Rattle.projects.specs.Changes.{MakesStep, RefusesChange}
-use Rattle.projects.specs.Desk.{Replies, RepliesWhereRose, Does, HasFailed, EndsWhereRose, Fetched, FetchesWhereRose}
+use Rattle.projects.specs.Desk.{Replies, RepliesWhereRose, Does, EndsWhereRose, Fetched, FetchesWhereRose}
 use Rattle.projects.specs.declared.keeper.KeeperEnd.{KeeperEnd}
 use Rattle.projects.specs.declared.keeper.KeeperEnd.TheVariants as keeper
 use Rattle.projects.specs.declared.step.Step.{Step}
+use Rattle.projects.specs.declared.changes.Ready.{Ready}
 use Rattle.projects.specs.declared.early.Early.{Early}
 use Rattle.projects.specs.declared.early.Early.TheVariants as early
 use Rattle.projects.proofs.Committing.{can_commit}
@@ -33,7 +33,8 @@ use Rattle.projects.proofs.Standing.{empty_stands}
 use Rattle.projects.proofs.TablesStanding.{names_stand, stand_at, found_stands, none_stands, some_stands, put_stands}
 
 -- what is told more
-pub tells_more : (old new : Option Tables) (clean : Type 0) (F G : Tables → Tables → Type 0) → ((before after : Tables) → F before after → G before after)
+pub tells_more : (old new : Option Tables) (clean : Type 0) (F G : Tables → Tables → Type 0)
+    → ((before after : Tables) → F before after → G before after)
     → Tells old clean new F → Tells old clean new G
 tells_more old new clean F G f h before e c =
     let t : (after : Tables) × AreTold before after new F = h before e c in
@@ -49,16 +50,26 @@ tells_on old mid new first last F G H f h clean k before e c =
     (u.0, record { told = u.1.told; old_tables = t.1.old_tables; new_tables = u.1.new_tables; holds = f before t.0 u.0 t.1.holds u.1.holds })
 
 -- the reply of the machine, and the keeper's fault
-pub replies_ok : (before after : Tables) (c : Command) (r : Reply) → Does before c (Ok r) after → Replies before c (Ok r) after
-replies_ok before after c r d entries h =
-    let s = d entries h in (s.0, s.1, inl (inl (record { reply = r; entries = s.0 }, s.2, refl, refl)))
+pub replies_ok : (before after : Tables) (c : Command) (r : Reply) → Does before c (Ok r) after
+    → Replies before c (Ok r) after
+replies_ok before after c r d = record {
+  step = λ entries h. (let s = d.answer entries h in (s.0, s.1, inl (inl (record { reply = r; entries = s.0 }, s.2, refl, refl))));
+  same = d.same;
+}
 
-pub replies_refused : (before after : Tables) (c : Command) (why : Cause) → Does before c (Err (early.Refused why)) after → Replies before c (Ok (reply.Refused why)) after
-replies_refused before after c why d entries h =
-    (entries, subst (λ (t : Tables). StandFor t entries) (sym d.1) h, inl (inr (why, d.0 entries h, refl, refl)))
+pub replies_refused : (before after : Tables) (c : Command) (why : Cause)
+    → Does before c (Err (early.Refused why)) after → Replies before c (Ok (reply.Refused why)) after
+replies_refused before after c why d = record {
+  step = λ entries h. (entries, subst (λ (t : Tables). StandFor t entries) (sym d.1) h, inl (inr (why, d.0 entries h, refl, refl)));
+  same = λ n. d.1;
+}
 
-pub replies_failed : (before after : Tables) (c : Command) → after ≡ before → Replies before c (Ok reply.KeeperFailed) after
-replies_failed before after c d entries h = (entries, subst (λ (t : Tables). StandFor t entries) (sym d) h, inr (refl, refl))
+pub replies_failed : (before after : Tables) (c : Command) → after ≡ before
+    → Replies before c (Ok reply.KeeperFailed) after
+replies_failed before after c d = record {
+  step = λ entries h. (entries, subst (λ (t : Tables). StandFor t entries) (sym d) h, inr (refl, refl));
+  same = λ n. d;
+}
 
 -- what is under a name is there, or not
 is_there : (kept : Option Entry) (e : Entry) → kept ≡ Some e → ¬ (kept ≡ None)
@@ -69,7 +80,8 @@ not_there None e h = cc
 not_there (Some x) e h = cc
 
 -- the project that was fetched stands for the entry under the name
-entry_found : (tables : Tables) (entries : Entries) (name : List ℕ) (p : ExactProject) → StandFor tables entries → project_at tables name ≡ Some p
+entry_found : (tables : Tables) (entries : Entries) (name : List ℕ) (p : ExactProject)
+    → StandFor tables entries → project_at tables name ≡ Some p
     → (e : Entry) × (entry_at entries name ≡ Some e) × StandsFor p e
 entry_found tables entries name p h f = found_stands (project_at tables name) (entry_at entries name) p (stand_at tables entries name h) f
 
@@ -87,40 +99,54 @@ question_on : (Q : ℕ → ExactPattern → Result Reply Cause → Type 0) (p : 
 question_on Q p e r h q = subst (λ (n : ℕ). Q n e.now r) (sym h.rev) (subst (λ (x : ExactPattern). Q p.rev x r) (sym h.now) q)
 
 asked : (entries : Entries) (name : List ℕ) (Q : ℕ → ExactPattern → Result Reply Cause → Type 0) (p : ExactProject) (e : Entry) (r : Result Reply Cause)
-    → entry_at entries name ≡ Some e → StandsFor p e → Q p.rev p.pattern r → Asked entries name Q (told entries r)
+    → entry_at entries name ≡ Some e → StandsFor p e → Q p.rev p.pattern r
+    → Asked entries name Q (told entries r)
 asked entries name Q p e r at h q = inr (is_there (entry_at entries name) e at, (e, at, (r, question_on Q p e r h q, refl)))
 
 pub does_ask : (before after : Tables) (c : Command) (name : List ℕ) (Q : ℕ → ExactPattern → Result Reply Cause → Type 0)
     → ((entries : Entries) (answer : Result Said Cause) → Asked entries name Q answer → Answered entries c answer)
-    → (p : ExactProject) (r : Result Reply Early) → after ≡ before → project_at before name ≡ Some p → Answers (Q p.rev p.pattern) r → Does before c r after
-does_ask before after c name Q n p (Ok r) same f q = λ entries h.
-    (let e = entry_found before entries name p h f in
-    (entries, subst (λ (t : Tables). StandFor t entries) (sym same) h, n entries (told entries (Ok r)) (asked entries name Q p e.0 (Ok r) e.1 e.2 q)))
+    → (p : ExactProject) (r : Result Reply Early) → after ≡ before → project_at before name ≡ Some p
+    → Answers (Q p.rev p.pattern) r → Does before c r after
+does_ask before after c name Q n p (Ok r) same f q = record {
+  answer = λ entries h.
+      (let e = entry_found before entries name p h f in
+      (entries, subst (λ (t : Tables). StandFor t entries) (sym same) h, n entries (told entries (Ok r)) (asked entries name Q p e.0 (Ok r) e.1 e.2 q)));
+  same = λ k. same;
+}
 does_ask before after c name Q n p (Err (early.Refused why)) same f q =
     ((λ entries h. (let e = entry_found before entries name p h f in n entries (told entries (Err why)) (asked entries name Q p e.0 (Err why) e.1 e.2 q))), same)
 does_ask before after c name Q n p (Err early.KeeperFailed) same f q = absurd q
 does_ask before after c name Q n p (Err early.NoMemory) same f q = same
 
 -- a new project, and the names of all
-pub does_create : (E : Type 0) (before after : Tables) (name : List ℕ) (sheet : ExactSheet) → Created {E = E} before name sheet (Ok true) after
+pub does_create : (E : Type 0) (before after : Tables) (name : List ℕ) (sheet : ExactSheet)
+    → Created {E = E} before name sheet (Ok true) after
     → Does before (command.New name sheet) (Ok (reply.Done 0)) after
-does_create E before after name sheet c entries h = (
-  with_entry entries name (fresh sheet),
-  subst (λ (t : Tables). StandFor t (with_entry entries name (fresh sheet))) (sym c.1) (put_stands before entries name (empty_project sheet) (fresh sheet) h (empty_stands sheet)),
-  inr (not_there (entry_at entries name) (none_stands (project_at before name) (entry_at entries name) (stand_at before entries name h) c.0), refl),
-)
+does_create E before after name sheet c = record {
+  answer = λ entries h. (
+    with_entry entries name (fresh sheet),
+    subst (λ (t : Tables). StandFor t (with_entry entries name (fresh sheet))) (sym c.1) (put_stands before entries name (empty_project sheet) (fresh sheet) h (empty_stands sheet)),
+    inr (not_there (entry_at entries name) (none_stands (project_at before name) (entry_at entries name) (stand_at before entries name h) c.0), refl),
+  );
+  same = λ n. absurd (n tt);
+}
 
-pub does_exist : (E : Type 0) (before after : Tables) (name : List ℕ) (sheet : ExactSheet) → Created {E = E} before name sheet (Ok false) after
+pub does_exist : (E : Type 0) (before after : Tables) (name : List ℕ) (sheet : ExactSheet)
+    → Created {E = E} before name sheet (Ok false) after
     → Does before (command.New name sheet) (Err (early.Refused cause.Exists)) after
 does_exist E before after name sheet c =
     ((λ entries h. inl (some_stands (project_at before name) (entry_at entries name) (stand_at before entries name h) c.0, refl)), c.1)
 
-pub does_list : (before after : Tables) (names : List (List ℕ)) → after ≡ before → names ≡ names_of before → Does before command.List (Ok (reply.Names names)) after
-does_list before after names same e entries h = (
-  entries,
-  subst (λ (t : Tables). StandFor t entries) (sym same) h,
-  ap (λ (ns : List (List ℕ)). Ok (record { reply = reply.Names ns; entries = entries })) (e ∙ names_stand before entries h),
-)
+pub does_list : (before after : Tables) (names : List (List ℕ)) → after ≡ before
+    → names ≡ names_of before → Does before command.List (Ok (reply.Names names)) after
+does_list before after names same e = record {
+  answer = λ entries h. (
+    entries,
+    subst (λ (t : Tables). StandFor t entries) (sym same) h,
+    ap (λ (ns : List (List ℕ)). Ok (record { reply = reply.Names ns; entries = entries })) (e ∙ names_stand before entries h),
+  );
+  same = λ n. same;
+}
 
 -- a change of the project that was fetched
 pub does_refuse : (before after : Tables) (name : List ℕ) (given : Option ℕ) (c : Change) (p : ExactProject) (e : Early) → after ≡ before → project_at before name ≡ Some p
@@ -133,33 +159,37 @@ does_refuse before after name given c p (early.Refused why) same f r = (
 does_refuse before after name given c p early.KeeperFailed same f r = absurd r
 does_refuse before after name given c p early.NoMemory same f r = same
 
-pub does_change : (before after : Tables) (name : List ℕ) (given : Option ℕ) (c : Change) (p : ExactProject) (step : Step) → project_at before name ≡ Some p
-    → MakesStep p given c step → IsCommitted before name step after → Does before (command.Change name given c) (Ok (reply.Done (p.rev + 1))) after
-does_change before after name given c p step f m k entries h =
-    let e = entry_found before entries name p h f in
-    let next = m.makes e.0 e.2 in
-    let same : k.project ≡ p = some_same k.project p (sym k.there ∙ f) in
-    let stepped : Stepped p step k.next = subst (λ (x : ExactProject). Stepped x step k.next) same k.stepped in
-    let stands : StandsFor k.next next.0 = next.2 k.next stepped in
-    let rev : p.rev + 1 ≡ next.0.rev = sym stepped.rev ∙ sym stands.rev in (
-      with_entry entries name next.0,
-      subst (λ (t : Tables). StandFor t (with_entry entries name next.0)) (sym k.tables) (put_stands before entries name k.next next.0 h stands),
-      inr (
-        is_there (entry_at entries name) e.0 e.1,
-        (
-          e.0,
-          e.1,
+pub does_change : (before after : Tables) (name : List ℕ) (given : Option ℕ) (c : Change) (p : ExactProject) (ready : Ready) → project_at before name ≡ Some p
+    → MakesStep p given c ready → IsCommitted before name ready.step after
+    → Does before (command.Change name given c) (Ok ready.reply) after
+does_change before after name given c p ready f m k = record {
+  answer = λ entries h.
+      (let e = entry_found before entries name p h f in
+      let next = m.makes e.0 e.2 in
+      let same : k.project ≡ p = some_same k.project p (sym k.there ∙ f) in
+      let stepped : Stepped p ready.step k.next = subst (λ (x : ExactProject). Stepped x ready.step k.next) same k.stepped in
+      let stands : StandsFor k.next next.0.entry = next.3 k.next stepped in (
+        with_entry entries name next.0.entry,
+        subst (λ (t : Tables). StandFor t (with_entry entries name next.0.entry)) (sym k.tables) (put_stands before entries name k.next next.0.entry h stands),
+        inr (
+          is_there (entry_at entries name) e.0 e.1,
           (
-            Ok next.0,
-            next.1,
-            ap (λ (n : ℕ). Ok (record { reply = reply.Done n; entries = with_entry entries name next.0 })) rev,
+            e.0,
+            e.1,
+            (
+              Ok next.0,
+              next.1,
+              ap (λ (r : Reply). Ok (record { reply = r; entries = with_entry entries name next.0.entry })) (sym next.2),
+            ),
           ),
         ),
-      ),
-    )
+      ));
+  same = λ n. absurd (n m.says);
+}
 
 -- a keeper's call that failed
-pub does_fail : (before after : Tables) (c : Command) (e : KeeperEnd) → after ≡ before → Does before c (Err (of_keeper e)) after
+pub does_fail : (before after : Tables) (c : Command) (e : KeeperEnd) → after ≡ before
+    → Does before c (Err (of_keeper e)) after
 does_fail before after c keeper.Failed same = same
 does_fail before after c keeper.NoMemory same = same
 
@@ -167,15 +197,18 @@ pub fetch_fails : (before : Tables) (name : List ℕ) (e : KeeperEnd) → Fetche
 fetch_fails before name keeper.Failed = tt
 fetch_fails before name keeper.NoMemory = tt
 
-pub keeper_ends : {T : Type 0} (before now : ℕ) (e : KeeperEnd) → FailsWhereRose {T = T} before now (Err e) → EndsWhereRose before now (Err (of_keeper e))
+pub keeper_ends : {T : Type 0} (before now : ℕ) (e : KeeperEnd)
+    → FailsWhereRose {T = T} before now (Err e) → EndsWhereRose before now (Err (of_keeper e))
 keeper_ends before now keeper.Failed h = record { later = h.later; failed = λ x. h.failed refl }
 keeper_ends before now keeper.NoMemory h = record { later = h.later; failed = λ x. absurd x }
 
-pub keeper_fetch_ends : {T : Type 0} (before now : ℕ) (e : KeeperEnd) → FailsWhereRose {T = T} before now (Err e) → FetchesWhereRose before now (Err (of_keeper e))
+pub keeper_fetch_ends : {T : Type 0} (before now : ℕ) (e : KeeperEnd)
+    → FailsWhereRose {T = T} before now (Err e) → FetchesWhereRose before now (Err (of_keeper e))
 keeper_fetch_ends before now keeper.Failed h = record { later = h.later; failed = λ x. h.failed refl }
 keeper_fetch_ends before now keeper.NoMemory h = record { later = h.later; failed = λ x. cc }
 
-pub fetch_ends : (before now : ℕ) (e : Early) → FetchesWhereRose before now (Err e) → EndsWhereRose before now (Err e)
+pub fetch_ends : (before now : ℕ) (e : Early) → FetchesWhereRose before now (Err e)
+    → EndsWhereRose before now (Err e)
 fetch_ends before now (early.Refused why) h = record { later = h.later; failed = λ x. absurd x }
 fetch_ends before now early.KeeperFailed h = record { later = h.later; failed = λ x. h.failed refl }
 fetch_ends before now early.NoMemory h = record { later = h.later; failed = λ x. absurd x }
@@ -183,7 +216,8 @@ fetch_ends before now early.NoMemory h = record { later = h.later; failed = λ x
 pub rose_before : (before between now : ℕ) → before ≤ between → Rose between now → Rose before now
 rose_before before between now l r = omega (arith, l, r)
 
-pub ends_later : (before between now : ℕ) (r : Result Reply Early) → before ≤ between → EndsWhereRose between now r → EndsWhereRose before now r
+pub ends_later : (before between now : ℕ) (r : Result Reply Early) → before ≤ between
+    → EndsWhereRose between now r → EndsWhereRose before now r
 ends_later before between now r l h = record { later = omega (arith, l, h.later); failed = λ x. rose_before before between now l (h.failed x) }
 
 abbrev ok_reply : Reply → Result Reply NoMemory
@@ -192,23 +226,27 @@ ok_reply r = Ok r
 same_reply : (x y : Reply) → ok_reply x ≡ ok_reply y → x ≡ y
 same_reply x y e = cc
 
-pub replies_rose : (before now : ℕ) (r : Reply) → EndsWhereRose before now (Ok r) → RepliesWhereRose before now (Ok r)
+pub replies_rose : (before now : ℕ) (r : Reply) → EndsWhereRose before now (Ok r)
+    → RepliesWhereRose before now (Ok r)
 replies_rose before now r h = record { later = h.later; failed = λ e. h.failed (same_reply r reply.KeeperFailed e) }
 
 -- the step may be committed
 pub may_commit : (old new : Option Tables) (clean : Type 0) (name : List ℕ) (step : Step) (p : ExactProject)
-    → Tells old clean new (λ before after. (after ≡ before) × (project_at before name ≡ Some p)) → (IsSome new → clean → IsSome old)
-    → p.rev < last_rev → StepFits p step → (tables : Tables) → new ≡ Some tables → clean → CanCommit tables name step
+    → Tells old clean new (λ before after. (after ≡ before) × (project_at before name ≡ Some p))
+    → (IsSome new → clean → IsSome old)
+    → p.rev < last_rev → StepFits p step → (tables : Tables) → new ≡ Some tables → clean
+    → CanCommit tables name step
 may_commit old new clean name step p t u r f = can_commit old new clean name step (Some p) p
     (tells_more old new clean (λ before after. (after ≡ before) × (project_at before name ≡ Some p)) (λ before after. (after ≡ before) × (Some p ≡ project_at before name)) (λ before after h. (h.0, sym h.1)) t) u refl r f
 
 -- an end that is handed on
-pub does_end : (before after : Tables) (c : Command) (r : Result Reply Early) {y e : Early} → r ≡ Err y → y ≡ e → Does before c (Err e) after → Does before c r after
+pub does_end : (before after : Tables) (c : Command) (r : Result Reply Early) {y e : Early} → r ≡ Err y
+    → y ≡ e → Does before c (Err e) after → Does before c r after
 does_end before after c r same end d = subst (λ (x : Result Reply Early). Does before c x after) (sym same) (subst (λ (x : Early). Does before c (Err x) after) (sym end) d)
 
 -- what is answered of the entry under a name
 abbrev pub ChangedOf : List ℕ → Option ℕ → Change → Entries → Entry → Result Said Cause → Type 0
-ChangedOf name given c entries e answer = (r : Result Entry Cause) × Changed e given c r × (answer ≡ done entries name r)
+ChangedOf name given c entries e answer = (r : Result Made Cause) × Changed e given c r × (answer ≡ done entries name r)
 
 abbrev pub AskedOf : (ℕ → ExactPattern → Result Reply Cause → Type 0) → Entries → Entry → Result Said Cause → Type 0
 AskedOf Q entries e answer = (r : Result Reply Cause) × Q e.rev e.now r × (answer ≡ told entries r)
@@ -217,7 +255,8 @@ AskedOf Q entries e answer = (r : Result Reply Cause) × Q e.rev e.now r × (ans
 pub missing : (old new : Option Tables) (clean : Type 0) (name : List ℕ) (asked c : Command) (Q : ℕ → ExactPattern → Result Reply Cause → Type 0) → asked ≡ c
     → ((entries : Entries) (answer : Result Said Cause) → Asked entries name Q answer → Answered entries c answer)
     → (r : Result Reply Early) (y e : Early) → r ≡ Err y → y ≡ e
-    → Tells old clean new (λ before after. (after ≡ before) × Fetched before name (Err e)) → Tells old clean new (λ before after. Does before asked r after)
+    → Tells old clean new (λ before after. (after ≡ before) × Fetched before name (Err e))
+    → Tells old clean new (λ before after. Does before asked r after)
 missing old new clean name asked c Q is n r y e same end t = tells_more old new clean
     (λ before after. (after ≡ before) × Fetched before name (Err e)) (λ before after. Does before asked r after)
     (λ before after h. subst (λ (x : Command). Does before x r after) (sym is)
@@ -227,7 +266,8 @@ missing old new clean name asked c Q is n r y e same end t = tells_more old new 
 pub answering : (old new : Option Tables) (clean : Type 0) (name : List ℕ) (asked c : Command) (Q : ℕ → ExactPattern → Result Reply Cause → Type 0) → asked ≡ c
     → ((entries : Entries) (answer : Result Said Cause) → Asked entries name Q answer → Answered entries c answer)
     → (p : ExactProject) (r : Result Reply Early) → Answers (Q p.rev p.pattern) r
-    → Tells old clean new (λ before after. (after ≡ before) × (project_at before name ≡ Some p)) → Tells old clean new (λ before after. Does before asked r after)
+    → Tells old clean new (λ before after. (after ≡ before) × (project_at before name ≡ Some p))
+    → Tells old clean new (λ before after. Does before asked r after)
 answering old new clean name asked c Q is n p r q t = tells_more old new clean
     (λ before after. (after ≡ before) × (project_at before name ≡ Some p)) (λ before after. Does before asked r after)
     (λ before after h. subst (λ (x : Command). Does before x r after) (sym is) (does_ask before after c name Q n p r h.0 h.1 q)) t

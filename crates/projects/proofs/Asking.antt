@@ -1,5 +1,5 @@
 -- What a question about an opened project answers.
-use Rattle.std.proofs.Common.{◌≡◌, ◌⊎◌, inl, inr, List, refl, sym, subst}
+use Rattle.std.proofs.Common.{◌≡◌, inl, inr, List, refl, sym, subst}
 use Rattle.std.specs.Prelude.{Some, None, Ok, Err}
 use Rattle.exact.specs.Plane.{ExactPoint}
 use Rattle.sheet.specs.Pattern.{ExactPattern}

@@ -1,12 +1,12 @@
 -- A project and the entry that it stands for, over a step.
-use Rattle.std.proofs.Common.{◌≡◌, ℕ, zero, suc, ◌+◌, ◌-◌, List, [], ◌∷◌, ◌++◌, length, drop, refl, sym, ap, subst, ◌∙◌, arith, length-append}
+use Rattle.std.proofs.Common.{◌≡◌, ℕ, zero, suc, ◌+◌, ◌-◌, List, [], ◌∷◌, ◌++◌, length, drop, refl, sym, ap, subst, ◌∙◌, arith}
 use Rattle.sheet.specs.Sheet.{ExactSheet}
 use Rattle.sheet.specs.Pattern.{ExactPattern, IsPattern}
 use Rattle.pattern.specs.Deltas.{Fits, Leads, inverse_of}
 use Rattle.pattern.specs.declared.delta.Delta.{Delta}
 use Rattle.pattern.proofs.Leading.{leads_to_one, inverse_leads}
 use Rattle.history.specs.Histories.{ExactHistory, IsBack}
-use Rattle.projects.specs.Projects.{ExactProject, IsProject, IsPast, IsFuture, Walk, empty_project}
+use Rattle.projects.specs.Projects.{ExactProject, IsProject, Walk, empty_project}
 use Rattle.projects.specs.Steps.{Stepped}
 use Rattle.projects.specs.declared.step.Step.TheVariants.{Do, Undo, Redo}
 use Rattle.projects.specs.Entries.{Entry, next_of, LeadTo, LeadFrom, StandsFor, fresh}

@@ -8,7 +8,7 @@ use Rattle.std.specs.Map.{keys_of, values_of}
 use Rattle.std.proofs.lemmas.List.Elements.{All-head, All-tail}
 use Rattle.dialogue.specs.Names.{name_cmp}
 use Rattle.projects.specs.Projects.{ExactProject, IsProject}
-use Rattle.projects.specs.Tables.{Tables, IsTables, names_of, project_at, with_project}
+use Rattle.projects.specs.Tables.{Tables, names_of, project_at, with_project}
 use Rattle.projects.specs.Entries.{Entry, Entries, StandsFor, StandFor, entry_at, with_entry}
 use Rattle.projects.proofs.Entries.{some_same}
 use Rattle.projects.proofs.Standing.{entry_is_one, entry_exists}

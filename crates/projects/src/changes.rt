@@ -7,19 +7,29 @@ ghost use Rattle.pattern.specs.Deltas.{Fits};
 ghost use Rattle.projects.specs.Projects.{IsProject};
 ghost use Rattle.projects.specs.Machine.{Unless, IsStale};
 ghost use Rattle.projects.specs.Ends.{EndsBy, IsUncut};
-ghost use Rattle.projects.specs.Changes.{StepsOn, Refuses, LeadsToCut, IsUncutAfter, MakesStep, RefusesChange};
+ghost use Rattle.projects.specs.Changes.{PlansOn, RefusesEdit, StepsOn, Refuses};
+ghost use Rattle.projects.specs.Changes.{LeadsToCut, IsUncutAfter, MakesStep, RefusesChange};
 
 use crate::early::Early;
 use crate::open::OpenProject;
 use crate::{Project, Step};
-use dialogue::{Cause, Change, LAST_REV};
+use cpfile::read_cp;
+use dialogue::{Cause, Change, LAST_REV, Reply};
 use edits::{Edit, plan};
 use judge::Judged;
+use lattice::Lattice;
 use pattern::Delta;
-use ports::Steps;
+use ports::{Listed, Steps};
 use std::alloc::Global;
 use std::marker::Brand;
 use std::sync::ledger::{Blank, Ledger};
+
+/// A step that can be taken, and what is answered after it.
+#[derive(Drop)]
+pub(crate) struct Ready {
+    pub(crate) step: Step,
+    pub(crate) reply: Reply,
+}
 
 /// The step that a change makes of a project, where the rev is right and both patterns are cut.
 pub(crate) fn step_of(
@@ -27,7 +37,7 @@ pub(crate) fn step_of(
     project: Project,
     given: Option<u64>,
     change: &Change,
-) -> Result<Step, Early>
+) -> Result<Ready, Early>
     ensures ok { IfOk result (MakesStep project given change.now) }
     ensures err { IfErr result (EndsBy (RefusesChange project given change.now)) }
 {
@@ -53,22 +63,64 @@ fn test_rev(kept: u64, given: Option<u64>) -> Result<(), Cause>
 }
 
 /// The step that a change makes, where the pattern to which it leads is cut.
-fn change_step(alloc: Global, opened: &OpenProject, change: &Change) -> Result<Step, Early>
+fn change_step(alloc: Global, opened: &OpenProject, change: &Change) -> Result<Ready, Early>
     requires { IsProject opened.now }
     ensures ok { IfOk result (StepsOn opened.now change.now) }
     ensures err { IfErr result (EndsBy (Refuses opened.now change.now)) }
 {
     match change {
         Change::Edit(edit) => edit_step(alloc, opened, edit),
+        Change::Import { lattice, text } => import_step(alloc, opened, lattice, text),
         Change::Undo => undo_step(alloc, opened),
         Change::Redo => redo_step(alloc, opened),
     }
 }
 
 /// The step of an edit.
-fn edit_step(alloc: Global, opened: &OpenProject, edit: &Edit) -> Result<Step, Early>
+fn edit_step(alloc: Global, opened: &OpenProject, edit: &Edit) -> Result<Ready, Early>
+    requires { IsProject opened.now }
     ensures ok { IfOk result (StepsOn opened.now (change.Edit edit.now)) }
     ensures err { IfErr result (EndsBy (Refuses opened.now (change.Edit edit.now))) }
+{
+    let step = planned(alloc, opened, edit)?;
+    Ok(Ready {
+        step,
+        reply: Reply::Done {
+            rev: opened.rev + 1,
+        },
+    })
+}
+
+/// The step that draws the lines of a CP text.
+fn import_step(
+    alloc: Global,
+    opened: &OpenProject,
+    lattice: &Lattice,
+    text: &Listed<u8>,
+) -> Result<Ready, Early>
+    requires { IsProject opened.now }
+    ensures ok { IfOk result (StepsOn opened.now (change.Import lattice.now text.now)) }
+    ensures err { IfErr result (EndsBy (Refuses opened.now (change.Import lattice.now text.now))) }
+{
+    let sheet = opened.judged.pattern().sheet();
+    let read = read_cp(alloc, text.as_slice(), lattice, &sheet)?;
+    let drawn = read.lines.as_slice().len() as u64;
+    let dropped = read.dropped;
+    let step = planned(alloc, opened, &Edit::Lines(read.lines))?;
+    Ok(Ready {
+        step,
+        reply: Reply::Imported {
+            rev: opened.rev + 1,
+            drawn,
+            dropped,
+        },
+    })
+}
+
+/// The step of an edit, where the pattern to which it leads is cut.
+fn planned(alloc: Global, opened: &OpenProject, edit: &Edit) -> Result<Step, Early>
+    ensures ok { IfOk result (PlansOn opened.now edit.now) }
+    ensures err { IfErr result (EndsBy (RefusesEdit opened.now edit.now)) }
 {
     let delta = plan(alloc, opened.judged.pattern(), edit)?;
     check(alloc, &opened.judged, &delta)?;
@@ -76,7 +128,7 @@ fn edit_step(alloc: Global, opened: &OpenProject, edit: &Edit) -> Result<Step, E
 }
 
 /// The step that takes the last change back.
-fn undo_step(alloc: Global, opened: &OpenProject) -> Result<Step, Early>
+fn undo_step(alloc: Global, opened: &OpenProject) -> Result<Ready, Early>
     requires { IsProject opened.now }
     ensures ok { IfOk result (StepsOn opened.now change.Undo) }
     ensures err { IfErr result (EndsBy (Refuses opened.now change.Undo)) }
@@ -86,11 +138,16 @@ fn undo_step(alloc: Global, opened: &OpenProject) -> Result<Step, Early>
     };
     let back = last.copy(alloc)?.inverse();
     check(alloc, &opened.judged, &back)?;
-    Ok(Step::Undo)
+    Ok(Ready {
+        step: Step::Undo,
+        reply: Reply::Done {
+            rev: opened.rev + 1,
+        },
+    })
 }
 
 /// The step that makes the next change again.
-fn redo_step(alloc: Global, opened: &OpenProject) -> Result<Step, Early>
+fn redo_step(alloc: Global, opened: &OpenProject) -> Result<Ready, Early>
     requires { IsProject opened.now }
     ensures ok { IfOk result (StepsOn opened.now change.Redo) }
     ensures err { IfErr result (EndsBy (Refuses opened.now change.Redo)) }
@@ -99,7 +156,12 @@ fn redo_step(alloc: Global, opened: &OpenProject) -> Result<Step, Early>
         return Err(Early::Refused(Cause::NothingToRedo));
     };
     check(alloc, &opened.judged, next)?;
-    Ok(Step::Redo)
+    Ok(Ready {
+        step: Step::Redo,
+        reply: Reply::Done {
+            rev: opened.rev + 1,
+        },
+    })
 }
 
 /// Whether the pattern to which a delta leads is cut.

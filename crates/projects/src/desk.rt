@@ -7,7 +7,7 @@ ghost use Rattle.projects.specs.Desk.{Replies, RepliesWhereRose, Does, EndsWhere
 
 use crate::changes::step_of;
 use crate::early::Early;
-use crate::questions::{faults, reported, shown, written};
+use crate::questions::{cp_written, faults, fold_written, reported, shown, written};
 use crate::{Keeper, Project};
 use dialogue::{Cause, Change, Command, Name, Reply};
 use ports::{Listed, NoMemory};
@@ -72,6 +72,8 @@ fn answer<K: Keeper>(alloc: Global, keeper: &mut K, command: &Command) -> Result
         Command::Faults { name } => faults(alloc, fetch_project(alloc, keeper, name)?),
         Command::Vertex { name, at } => reported(alloc, fetch_project(alloc, keeper, name)?, at),
         Command::PatternText { name } => written(alloc, &fetch_project(alloc, keeper, name)?),
+        Command::CpText { name } => cp_written(alloc, fetch_project(alloc, keeper, name)?),
+        Command::FoldText { name } => fold_written(alloc, fetch_project(alloc, keeper, name)?),
         Command::Change { name, rev, change } => change_project(alloc, keeper, name, *rev, change),
     }
 }
@@ -137,8 +139,7 @@ fn change_project<K: Keeper>(
     ensures path { K.keeper_path keeper.new ≡ K.keeper_path keeper.old }
 {
     let project = fetch_project(alloc, keeper, name)?;
-    let rev = project.rev() + 1;
-    let step = step_of(alloc, project, given, change)?;
-    keeper.commit(alloc, name, &step)?;
-    Ok(Reply::Done { rev })
+    let ready = step_of(alloc, project, given, change)?;
+    keeper.commit(alloc, name, &ready.step)?;
+    Ok(ready.reply)
 }

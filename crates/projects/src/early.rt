@@ -1,9 +1,10 @@
 //! How a command ends before it is done.
 ghost use Rattle.std.specs.Prelude.{◌≡◌};
-ghost use Rattle.projects.specs.Ends.{of_keeper, of_cut, of_edit};
+ghost use Rattle.projects.specs.Ends.{of_keeper, of_cut, of_edit, of_cp};
 ghost use Rattle.projects.specs.declared.early.Early.TheVariants as early;
 
 use crate::KeeperEnd;
+use cpfile::CpBad;
 use dialogue::Cause;
 use edits::EditBad;
 use ports::{NoMemory, Stop};
@@ -71,6 +72,17 @@ impl From<Stop<EditBad>> for Early {
         match stop {
             Stop::NoMemory => Early::NoMemory,
             Stop::Why(bad) => Early::Refused(Cause::Edit(bad)),
+        }
+    }
+}
+
+impl From<Stop<CpBad>> for Early {
+    ghost from_gives = { λ stop e. e ≡ of_cp stop };
+
+    fn from(stop: Stop<CpBad>) -> Self {
+        match stop {
+            Stop::NoMemory => Early::NoMemory,
+            Stop::Why(bad) => Early::Refused(Cause::Cp(bad)),
         }
     }
 }

@@ -23,3 +23,8 @@ pub use laws::{
 pub use memory::MemKeeper;
 pub use project::Project;
 pub use step::Step;
+
+#[cfg(test)]
+mod desk_tests;
+#[cfg(test)]
+mod tests;

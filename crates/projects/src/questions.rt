@@ -1,13 +1,15 @@
 //! Questions about the pattern of a project.
 ghost use Rattle.std.specs.Prelude.{◌≡◌};
-ghost use Rattle.projects.specs.Machine.{Shows, ListsFaults, Reports, Writes};
+ghost use Rattle.projects.specs.Machine.{Shows, ListsFaults, Reports, Writes, WritesCp, WritesFold};
 ghost use Rattle.projects.specs.Ends.{Answers};
 ghost use Rattle.projects.specs.Desk.{HasFailed};
 
 use crate::Project;
 use crate::early::Early;
 use crate::open::OpenProject;
+use cpfile::write_cp;
 use dialogue::{Cause, Reply};
+use foldfile::write_fold;
 use pattern::pattern_bytes;
 use plane::Point;
 use ports::Listed;
@@ -58,4 +60,24 @@ pub(crate) fn written(alloc: Global, project: &Project) -> Result<Reply, Early>
 {
     let text = pattern_bytes(alloc, project.pattern())?;
     Ok(Reply::Text(Listed::new(text)))
+}
+
+/// The CP text of the subdivision of a project's pattern.
+pub(crate) fn cp_written(alloc: Global, project: Project) -> Result<Reply, Early>
+    ensures answers { Answers (WritesCp project.rev project.pattern) result }
+    ensures keeper { ¬ HasFailed result }
+{
+    let opened = OpenProject::new(alloc, project)?;
+    let subdivision = opened.judged.subdivision(alloc)?;
+    Ok(Reply::Text(Listed::new(write_cp(alloc, &subdivision)?)))
+}
+
+/// The FOLD text of the subdivision of a project's pattern.
+pub(crate) fn fold_written(alloc: Global, project: Project) -> Result<Reply, Early>
+    ensures answers { Answers (WritesFold project.rev project.pattern) result }
+    ensures keeper { ¬ HasFailed result }
+{
+    let opened = OpenProject::new(alloc, project)?;
+    let subdivision = opened.judged.subdivision(alloc)?;
+    Ok(Reply::Text(Listed::new(write_fold(alloc, &subdivision)?)))
 }

@@ -1,44 +1,12 @@
-use Rattle.std.proofs.Common.{◌≡◌, List, sym, subst}
-use Rattle.std.specs.Prelude.{Ok, IfErr}
 use Rattle.std.proofs.lemmas.Result.{err_from_is_err_and}
-use Rattle.sheet.specs.Pattern.{ExactPattern}
-use Rattle.edits.specs.Answers.{Refuses as RefusesEdit}
-use Rattle.edits.specs.EditOf.{EditOf}
 use Rattle.dialogue.specs.declared.command.Change.TheVariants as change
-use Rattle.projects.specs.Projects.{ExactProject}
-use Rattle.projects.specs.Ends.{EndsBy}
-use Rattle.projects.specs.Changes.{StepsOn, Refuses, IsUncutAfter}
-use Rattle.projects.specs.declared.step.Step.TheVariants.{Do}
-use Rattle.projects.proofs.Stepping.{project_of}
-use Rattle.projects.proofs.Changing.{IsPlanned, planned, ends_map, handed_on, edit_ends, edit_on, edit_uncut}
+use Rattle.projects.specs.Changes.{Refuses, RefusesEdit}
+use Rattle.projects.proofs.Changing.{ends_map, handed_on, edit_refuses}
 use Rattle.projects.proofs.changes.edit_step.Goals as goal
 
-pub returns-in_err-delta-clause-err : goal.returns-in_err-delta-clause-err
-returns-in_err-delta-clause-err c =
+pub returns-in_err-step-clause-err : goal.returns-in_err-step-clause-err
+returns-in_err-step-clause-err c =
     let h = err_from_is_err_and c.from_residual.result c.from_residual.ensures.1 in
-    let p : ExactProject = project_of c.opened.inside.rev c.opened.inside.judged c.opened.inside.history in
-    let edit = c.args.edit.now in
-    subst (λ (x : ExactProject). IfErr c.from_residual.result (EndsBy (Refuses x (change.Edit edit)))) c.opened.view_is
-    (handed_on c.from_residual.result (Refuses p (change.Edit edit)) h.1 h.2
-    (edit_ends p edit c.in_err-delta.field-0.0 (subst (λ (x : ExactPattern). RefusesEdit (EditOf x edit) c.in_err-delta.field-0.0) c.pattern.ensures.value c.in_err-delta.ensures.refused)))
-
-pub returns-in_err-check-clause-err : goal.returns-in_err-check-clause-err
-returns-in_err-check-clause-err c =
-    let h = err_from_is_err_and c.from_residual-in_err-check.result c.from_residual-in_err-check.ensures.1 in
-    let p : ExactProject = project_of c.opened.inside.rev c.opened.inside.judged c.opened.inside.history in
-    let edit = c.args.edit.now in
-    let d = c.in_ok-delta.delta in
-    let l = c.in_ok-delta.ensures.leads in
-    let s : IsPlanned p.pattern edit d = planned c.pattern.result.now p.pattern edit d l.0 c.pattern.ensures.value c.in_ok-delta.ensures.fits l.1 l.2 in
-    subst (λ (x : ExactProject). IfErr c.from_residual-in_err-check.result (EndsBy (Refuses x (change.Edit edit)))) c.opened.view_is
-    (handed_on c.from_residual-in_err-check.result (Refuses p (change.Edit edit)) h.1 h.2
-    (ends_map (IsUncutAfter p.pattern d) (Refuses p (change.Edit edit)) (edit_uncut p edit d s.new s.fits s.leads s.is) c.in_err-check.field-0.0 c.in_err-check.ensures.err))
-
-pub returns-clause-ok : goal.returns-clause-ok
-returns-clause-ok c =
-    let p : ExactProject = project_of c.opened.inside.rev c.opened.inside.judged c.opened.inside.history in
-    let edit = c.args.edit.now in
-    let d = c.in_ok-delta.delta in
-    let l = c.in_ok-delta.ensures.leads in
-    let s : IsPlanned p.pattern edit d = planned c.pattern.result.now p.pattern edit d l.0 c.pattern.ensures.value c.in_ok-delta.ensures.fits l.1 l.2 in
-    subst (λ (x : ExactProject). StepsOn x (change.Edit edit) (Do d)) c.opened.view_is (edit_on p edit d s.new s.fits s.leads s.is c.in_ok-check.ensures.ok)
+    handed_on c.from_residual.result (Refuses c.args.opened.now (change.Edit c.args.edit.now)) h.1 h.2
+    (ends_map (RefusesEdit c.args.opened.now c.args.edit.now) (Refuses c.args.opened.now (change.Edit c.args.edit.now))
+    (edit_refuses c.args.opened.now c.args.edit.now) c.in_err-step.field-0.0 c.in_err-step.ensures.err)

@@ -1,11 +1,7 @@
-use Rattle.std.proofs.Common.{◌≡◌, ℕ, sym, subst, ap, ◌∙◌}
-use Rattle.std.specs.Prelude.{Result, Ok, Err, IfOk, IfErr}
+use Rattle.std.proofs.Common.{◌≡◌, ℕ, subst, ap, ◌∙◌}
+use Rattle.std.specs.Prelude.{Ok, Err, IfOk, IfErr}
 use Rattle.std.proofs.lemmas.Result.{err_from_is_err_and}
-use Rattle.dialogue.specs.Revs.{last_rev}
-use Rattle.dialogue.specs.declared.cause.Cause.TheVariants as cause
-use Rattle.subdivide.specs.Live.{IsCut}
-use Rattle.projects.specs.Projects.{ExactProject, IsProject}
-use Rattle.projects.specs.Machine.{Unless, IsStale}
+use Rattle.projects.specs.Projects.{ExactProject}
 use Rattle.projects.specs.Ends.{EndsBy}
 use Rattle.projects.specs.Changes.{StepsOn, Refuses, MakesStep, RefusesChange}
 use Rattle.projects.proofs.Changing.{ok_map, err_map, handed_on, IsTested, IsRevTested, tested, makes_step, refuses_rev, refuses_change}

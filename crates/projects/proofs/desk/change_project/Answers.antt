@@ -1,9 +1,8 @@
-use Rattle.std.proofs.Common.{◌≡◌, ℕ, ◌+◌, sym, subst}
+use Rattle.std.proofs.Common.{◌≡◌, subst}
 use Rattle.std.specs.Prelude.{Some, Ok, Err}
 use Rattle.std.proofs.lemmas.Result.{err_from_is_err_and}
 use Rattle.dialogue.specs.declared.command.Command.{Command}
 use Rattle.dialogue.specs.declared.command.Command.TheVariants as command
-use Rattle.dialogue.specs.declared.reply.Reply.TheVariants as reply
 use Rattle.projects.specs.Tables.{Tables, project_at, IsCommitted}
 use Rattle.projects.specs.Desk.{Does, Fetched}
 use Rattle.projects.proofs.Answering.{tells_more, tells_on, does_end, ChangedOf, does_without, does_refuse, does_change}
@@ -21,16 +20,16 @@ returns-in_err-project-clause-told g c =
     (does_without before after asked c.args.name.now (ChangedOf c.args.name.now c.args.given c.args.change.now) (λ entries answer u. u) e t.0 t.1))
     c.in_err-project.ensures.told
 
-pub returns-in_err-step-clause-told : goal.returns-in_err-step-clause-told
-returns-in_err-step-clause-told g c =
-    let h = err_from_is_err_and c.from_residual-in_err-step.result c.from_residual-in_err-step.ensures.1 in
+pub returns-in_err-ready-clause-told : goal.returns-in_err-ready-clause-told
+returns-in_err-ready-clause-told g c =
+    let h = err_from_is_err_and c.from_residual-in_err-ready.result c.from_residual-in_err-ready.ensures.1 in
     let asked : Command = command.Change c.args.name.now c.args.given c.args.change.now in
     let p = c.in_ok-project.project in
     tells_more (g.K.Keeper.tables c.args.keeper.now) (g.K.Keeper.tables c.fetch_project.new.keeper) (g.K.Keeper.is_clean c.fetch_project.new.keeper)
     (λ before after. (after ≡ before) × (project_at before c.args.name.now ≡ Some p))
-    (λ before after. Does before asked c.from_residual-in_err-step.result after)
-    (λ before after t. does_end before after asked c.from_residual-in_err-step.result h.1 h.2
-    (does_refuse before after c.args.name.now c.args.given c.args.change.now p c.in_err-step.field-0.0 t.0 t.1 c.in_err-step.ensures.err))
+    (λ before after. Does before asked c.from_residual-in_err-ready.result after)
+    (λ before after t. does_end before after asked c.from_residual-in_err-ready.result h.1 h.2
+    (does_refuse before after c.args.name.now c.args.given c.args.change.now p c.in_err-ready.field-0.0 t.0 t.1 c.in_err-ready.ensures.err))
     c.in_ok-project.ensures.told
 
 pub returns-clause-told : goal.returns-clause-told
@@ -40,9 +39,8 @@ returns-clause-told g c =
     tells_on (g.K.Keeper.tables c.args.keeper.now) (g.K.Keeper.tables c.fetch_project.new.keeper) (g.K.Keeper.tables c.commit.new.self)
     (g.K.Keeper.is_clean c.fetch_project.new.keeper) (g.K.Keeper.is_clean c.commit.new.self)
     (λ before after. (after ≡ before) × (project_at before c.args.name.now ≡ Some p))
-    (λ before after. IsCommitted before c.args.name.now c.in_ok-step.step after)
-    (λ before after. Does before asked (Ok (reply.Done (c.rev-rev.result + 1))) after)
-    (λ before between after t k. subst (λ (n : ℕ). Does before asked (Ok (reply.Done (n + 1))) after) (sym c.rev-rev.ensures.rev)
-    (does_change before after c.args.name.now c.args.given c.args.change.now p c.in_ok-step.step t.1 c.in_ok-step.ensures.ok
-    (subst (λ (x : Tables). IsCommitted x c.args.name.now c.in_ok-step.step after) t.0 k)))
+    (λ before after. IsCommitted before c.args.name.now c.in_ok-ready.ready.step after)
+    (λ before after. Does before asked (Ok c.in_ok-ready.ready.reply) after)
+    (λ before between after t k. does_change before after c.args.name.now c.args.given c.args.change.now p c.in_ok-ready.ready t.1 c.in_ok-ready.ensures.ok
+    (subst (λ (x : Tables). IsCommitted x c.args.name.now c.in_ok-ready.ready.step after) t.0 k))
     c.in_ok-project.ensures.told c.in_ok-commit.ensures.clean c.in_ok-commit.ensures.told

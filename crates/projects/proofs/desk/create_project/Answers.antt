@@ -1,4 +1,4 @@
-use Rattle.std.proofs.Common.{◌≡◌, Bool, subst}
+use Rattle.std.proofs.Common.{Bool, subst}
 use Rattle.std.specs.Prelude.{Ok, Err}
 use Rattle.dialogue.specs.declared.cause.Cause.TheVariants as cause
 use Rattle.dialogue.specs.declared.command.Command.TheVariants as command
