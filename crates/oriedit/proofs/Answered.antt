@@ -120,6 +120,13 @@ put_part E None (Some v) text e p = absurd p
 put_part E (Some u) None text e p = absurd p
 put_part E (Some u) (Some v) text e p = record { part = p.0; front = p.1; gained = p.2 }
 
+-- the same of a wrong text
+pub bad_gained : (E : Type 0) (a b : Option (List ℕ)) (told bad : BadText) (x : Unit) → Puts {T = Unit} {E = E} a b (bad_text told) (Ok x) → told ≡ bad → Gained a b (bad_text bad)
+bad_gained E a b told bad x p e = subst (λ t. Gained a b (bad_text t)) e (put_gained E a b (bad_text told) x p)
+
+pub bad_part : (E : Type 0) (a b : Option (List ℕ)) (told bad : BadText) (e : E) → Puts {T = Unit} {E = E} a b (bad_text told) (Err e) → told ≡ bad → HasPart a b (bad_text bad)
+bad_part E a b told bad e p h = subst (λ t. HasPart a b (bad_text t)) h (put_part E a b (bad_text told) e p)
+
 -- a unit that is none, and its text
 pub other_answered : (unit text : List ℕ) (read : Result (Option Command) BadText) (t : Option Tables) (f : ℕ) (a b : Option (List ℕ)) (clean : Type 0)
     → ReadsCommand unit read → ((x y : Entries) → y ≡ x → TurnOf x read text 0 y) → Gained a b text
@@ -159,12 +166,13 @@ fails_counted (reply.Vertex at r) a b l f = rose_none a b l
 fails_counted (reply.Text bytes) a b l f = rose_none a b l
 fails_counted (reply.Names names) a b l f = rose_none a b l
 fails_counted (reply.Refused why) a b l f = rose_none a b l
+fails_counted (reply.Imported rev drawn dropped) a b l f = rose_none a b l
 fails_counted reply.KeeperFailed a b l f = f refl
 
 -- a reply of the desk
 reply_tables : (c : Command) (r : Reply) (b a : Tables) → Replies b c (Ok r) a → ReplyTables b c (reply_text r) (failures r) a
 reply_tables c r b a h = λ entries s.
-    let x = h entries s in
+    let x = h.step entries s in
     (x.0, x.1, record { reply = r; step = x.2; text_is = refl; fails_is = refl })
 
 pub replied : (c : Command) (r : Reply) (old new : Option Tables) (held now : Option (List ℕ)) (before after : ℕ) (clean : Type 0) (written : List ℕ)

@@ -1,7 +1,7 @@
--- The last line of a script that has ended.
+-- The last unit of a script that has ended.
 use Rattle.std.proofs.Common.{◌≡◌, ◌≢◌, ◌<◌, ℕ, length, List, [], ◌∷◌, refl, sym, ap, subst, arith}
 use Rattle.std.specs.Prelude.{Ok, Err}
-use Rattle.oriedit.specs.Units.{last_line}
+use Rattle.oriedit.specs.Units.{last_unit}
 use Rattle.oriedit.specs.Script.{Works, AreAnswered}
 use Rattle.oriedit.specs.Answering.{AnswersOne, status_of}
 use Rattle.oriedit.specs.Lasting.{AnswersLast}
@@ -10,9 +10,9 @@ use Rattle.oriedit.specs.declared.early.Early.TheVariants as early
 use Rattle.oriedit.specs.declared.status.Status.TheVariants as status
 use Rattle.oriedit.proofs.Answered.{nothing_yet}
 
--- no line is left
+-- no unit is left
 pub no_last : (rest : List ℕ) (w : Works) (clean : Type 0) → rest ≡ [] → AnswersLast rest w clean w status.Ok
-no_last rest w clean e = subst (λ r. AreAnswered w clean w (last_line r)) (sym e) (nothing_yet w clean)
+no_last rest w clean e = subst (λ r. AreAnswered w clean w (last_unit r)) (sym e) (nothing_yet w clean)
 
 pub last_answered : (rest : List ℕ) (old new : Works) (clean : Type 0) → rest ≢ [] → AnswersOne rest old clean new (Ok tt) → AnswersLast rest old clean new status.Ok
 last_answered [] old new clean n a = absurd (n refl)

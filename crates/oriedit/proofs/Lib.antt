@@ -2,8 +2,10 @@ pub mod Taken
 pub mod Ending
 mod OneText
 pub mod Joining
-pub mod Lines
 pub mod Answered
+pub mod UnitEnds
 pub mod Feeding
 pub mod Lasting
 pub mod SoFar
+pub mod SettingLists
+pub mod AskedWords

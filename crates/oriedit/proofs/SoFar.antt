@@ -1,14 +1,14 @@
 -- A script up to some place.
 use Rattle.std.proofs.Common.{◌≡◌, ℕ, ◌+◌, ◌<◌, ◌≤◌, ◌^◌, length, length-append, take, List, [], ◌++◌, append_assoc, append-nil, refl, sym, ap, subst, ◌∙◌, inl, inr, arith}
-use Rattle.std.specs.Prelude.{Contains, Option, Some, None, Ok, Err}
+use Rattle.std.specs.Prelude.{Option, Some, None, Ok, Err}
 use Rattle.std.specs.List.{concat}
 use Rattle.std.proofs.lemmas.List.{take-append-le, length-take-le}
 use Rattle.std.proofs.lemmas.List.Elements.{All-nil, All-append}
 use Rattle.ports.specs.Streams.{Takes}
 use Rattle.oriedit.specs.Reading.{Gave, IsSpent}
-use Rattle.oriedit.specs.Units.{IsLine, AreLines, last_line}
+use Rattle.oriedit.specs.Units.{IsUnit, StandsFirst, AreUnits, last_unit}
 use Rattle.oriedit.specs.Script.{Works, AreAnswered, AreCutOff, DoesSome, ScriptRuns}
-use Rattle.oriedit.specs.Answering.{AnswersLines, status_of}
+use Rattle.oriedit.specs.Answering.{AnswersUnits, status_of}
 use Rattle.oriedit.specs.Lasting.{AnswersLast}
 use Rattle.oriedit.specs.declared.early.Early.{Early}
 use Rattle.oriedit.specs.declared.early.Early.TheVariants as early
@@ -17,14 +17,15 @@ use Rattle.oriedit.specs.declared.status.Status.TheVariants as status
 use Rattle.oriedit.proofs.Taken.{gave_more}
 use Rattle.oriedit.proofs.Joining.{concat_more, answered_more, cut_off_more}
 use Rattle.oriedit.proofs.Answered.{nothing_yet}
+use Rattle.oriedit.proofs.UnitEnds.{nothing_kept, no_feed}
 
--- Bytes were taken: their whole lines were answered, and a line was begun.
+-- Bytes were taken: their whole units were answered, and a unit was begun.
 pub record IsRead (was left : Option (List ℕ)) (line : List ℕ) (taken : ℕ) (old : Works) (clean : Type 0) (now : Works) : Type 0 where
   pub bytes : List ℕ
   pub units : List (List ℕ)
   pub gave : Gave was left bytes
   pub count : length bytes ≡ taken
-  pub lines : AreLines bytes units line
+  pub all : AreUnits bytes units line
   pub answered : AreAnswered old clean now units
 
 gave_nothing : (was : Option (List ℕ)) → Gave was was []
@@ -37,57 +38,51 @@ nothing_read was line w clean e = record {
   units = [];
   gave = gave_nothing was;
   count = refl;
-  lines = record {
-    all = sym e;
-    lines = All-nil IsLine;
-    unfinished = subst (λ t. ¬ Contains t 10) (sym e) (λ c. let l = c.1 in omega arith);
-  };
+  all = record { first = record { all = sym e; each = All-nil IsUnit }; unfinished = no_feed line (nothing_kept line 0 e refl) };
   answered = nothing_yet w clean;
 }
 
--- lines of more bytes, behind whole lines and a line that was begun
-lines_behind : (bytes line piece kept : List ℕ) (us vs : List (List ℕ)) → AreLines bytes us line → AreLines (line ++ piece) vs kept → AreLines (bytes ++ piece) (us ++ vs) kept
-lines_behind bytes line piece kept us vs l m = record {
+-- units of more bytes, behind whole units and one that was begun
+units_behind : (bytes line piece kept : List ℕ) (us vs : List (List ℕ)) → StandsFirst bytes us line → StandsFirst (line ++ piece) vs kept → StandsFirst (bytes ++ piece) (us ++ vs) kept
+units_behind bytes line piece kept us vs l m = record {
   all = ap (λ t. t ++ piece) l.all ∙ append_assoc (concat us) line piece ∙ ap (λ t. concat us ++ t) m.all
       ∙ sym (append_assoc (concat us) (concat vs) kept) ∙ ap (λ t. t ++ kept) (sym (concat_more us vs));
-  lines = All-append IsLine us vs l.lines m.lines;
-  unfinished = m.unfinished;
+  each = All-append IsUnit us vs l.each m.each;
 }
 
--- a piece was taken and its lines were answered
+-- a piece was taken and its units were answered
 pub more_read : (was mid left : Option (List ℕ)) (line piece kept : List ℕ) (taken after : ℕ) (old now new : Works) (C D : Type 0) → (D → C)
-    → (r : IsRead was mid line taken old C now) → Gave was left (r.bytes ++ piece) → after ≡ taken + length piece → AnswersLines (line ++ piece) kept now D new (Ok tt)
+    → (r : IsRead was mid line taken old C now) → Gave was left (r.bytes ++ piece) → after ≡ taken + length piece → AnswersUnits (line ++ piece) kept now D new (Ok tt)
     → IsRead was left kept after old D new
 more_read was mid left line piece kept taken after old now new C D f r g e a = record {
   bytes = r.bytes ++ piece;
   units = r.units ++ a.0;
   gave = g;
   count = length-append r.bytes piece ∙ ap (λ n. n + length piece) r.count ∙ sym e;
-  lines = lines_behind r.bytes line piece kept r.units a.0 r.lines a.1;
+  all = record { first = units_behind r.bytes line piece kept r.units a.0 r.all.first a.1.first; unfinished = a.1.unfinished };
   answered = answered_more old now new C D f r.units a.0 r.answered a.2;
 }
 
-some_behind : (bytes line piece : List ℕ) (us : List (List ℕ)) (P Q : List (List ℕ) → Type 0) → AreLines bytes us line → ((vs : List (List ℕ)) → P vs → Q (us ++ vs)) → DoesSome (line ++ piece) P → DoesSome (bytes ++ piece) Q
+some_behind : (bytes line piece : List ℕ) (us : List (List ℕ)) (P Q : List (List ℕ) → Type 0) → StandsFirst bytes us line → ((vs : List (List ℕ)) → P vs → Q (us ++ vs)) → DoesSome (line ++ piece) P → DoesSome (bytes ++ piece) Q
 some_behind bytes line piece us P Q l f d = record {
   units = us ++ d.units;
-  later = d.later;
   rest = d.rest;
-  lines = subst (λ x. AreLines (bytes ++ piece) x d.rest) (sym (append_assoc us d.units d.later)) (lines_behind bytes line piece d.rest us (d.units ++ d.later) l d.lines);
+  all = units_behind bytes line piece d.rest us d.units l d.all;
   done = f d.units d.done;
 }
 
--- a piece was taken, and the script ended at one of its lines
+-- a piece was taken, and the script ended at one of its units
 pub ended_at : (was mid left : Option (List ℕ)) (line piece kept : List ℕ) (taken : ℕ) (old now new : Works) (C D : Type 0) (e : Early) → (D → C)
-    → (r : IsRead was mid line taken old C now) → Gave was left (r.bytes ++ piece) → taken + length piece ≤ 2 ^ 28 → AnswersLines (line ++ piece) kept now D new (Err e)
+    → (r : IsRead was mid line taken old C now) → Gave was left (r.bytes ++ piece) → taken + length piece ≤ 2 ^ 28 → AnswersUnits (line ++ piece) kept now D new (Err e)
     → ScriptRuns was left old D new (status_of e)
 ended_at was mid left line piece kept taken old now new C D early.WriteFault f r g l a =
     let short : length (r.bytes ++ piece) ≤ 2 ^ 28 = simp length-append (omega (arith, r.count, l)) in
-    (r.bytes ++ piece, g, inl (short, some_behind r.bytes line piece r.units (AreCutOff now D new) (AreCutOff old D new) r.lines (λ vs c. cut_off_more old now new C D f r.units vs r.answered c) a))
+    (r.bytes ++ piece, g, inl (short, some_behind r.bytes line piece r.units (AreCutOff now D new) (AreCutOff old D new) r.all.first (λ vs c. cut_off_more old now new C D f r.units vs r.answered c) a))
 ended_at was mid left line piece kept taken old now new C D early.NoMemory f r g l a =
     let short : length (r.bytes ++ piece) ≤ 2 ^ 28 = simp length-append (omega (arith, r.count, l)) in
-    (r.bytes ++ piece, g, (short, some_behind r.bytes line piece r.units (AreAnswered now D new) (AreAnswered old D new) r.lines (λ vs c. answered_more old now new C D f r.units vs r.answered c) a))
+    (r.bytes ++ piece, g, (short, some_behind r.bytes line piece r.units (AreAnswered now D new) (AreAnswered old D new) r.all.first (λ vs c. answered_more old now new C D f r.units vs r.answered c) a))
 
--- the source has ended, and the last line was answered
+-- the source has ended, and the last unit was answered
 ended_whole : (was left : Option (List ℕ)) (line : List ℕ) (taken : ℕ) (old now new : Works) (C D : Type 0) (s : Status) → (D → C) → taken < 2 ^ 28 → IsSpent left
     → IsRead was left line taken old C now → AnswersLast line now D new s → ScriptRuns was left old D new s
 ended_whole was left line taken old now new C D status.Ok f l z r a = (
@@ -98,9 +93,9 @@ ended_whole was left line taken old now new C D status.Ok f l z r a = (
     record {
       units = r.units;
       rest = line;
-      lines = r.lines;
+      all = r.all;
       spent = z;
-      done = answered_more old now new C D f r.units (last_line line) r.answered a;
+      done = answered_more old now new C D f r.units (last_unit line) r.answered a;
     },
   ),
 )
@@ -112,9 +107,9 @@ ended_whole was left line taken old now new C D status.WriteFault f l z r a = (
     record {
       units = r.units;
       rest = line;
-      lines = r.lines;
+      all = r.all;
       spent = z;
-      done = cut_off_more old now new C D f r.units (last_line line) r.answered a;
+      done = cut_off_more old now new C D f r.units (last_unit line) r.answered a;
     },
   ),
 )
@@ -125,13 +120,13 @@ ended_whole was left line taken old now new C D status.NoMemory f l z r a = (
     omega (arith, r.count, l),
     record {
       units = r.units;
-      later = [];
       rest = line;
-      lines = subst (λ x. AreLines r.bytes x line) (sym (append-nil r.units)) r.lines;
+      all = r.all.first;
       done = subst (AreAnswered old D new) (append-nil r.units) (answered_more old now new C D f r.units [] r.answered a);
     },
   ),
 )
+ended_whole was left line taken old now new C D status.FaultsFound f l z r a = absurd a
 ended_whole was left line taken old now new C D status.Usage f l z r a = absurd a
 ended_whole was left line taken old now new C D status.ReadFault f l z r a = absurd a
 ended_whole was left line taken old now new C D status.TooLong f l z r a = absurd a
@@ -150,9 +145,8 @@ nothing_done was w clean = (
     omega arith,
     record {
       units = [];
-      later = [];
       rest = [];
-      lines = record { all = refl; lines = All-nil IsLine; unfinished = λ c. let l = c.1 in omega arith };
+      all = record { all = refl; each = All-nil IsUnit };
       done = nothing_yet w clean;
     },
   ),
@@ -179,7 +173,7 @@ read_on was mid left line taken old now clean r g = record {
   units = r.units;
   gave = g;
   count = r.count;
-  lines = r.lines;
+  all = r.all;
   answered = r.answered;
 }
 

@@ -5,7 +5,7 @@ use Rattle.dialogue.specs.declared.command.Command.{Command}
 use Rattle.projects.specs.Tables.{Tables}
 use Rattle.projects.specs.Entries.{Entries, StandFor}
 use Rattle.oriedit.specs.Outputs.{Gained}
-use Rattle.oriedit.specs.Units.{AreLines}
+use Rattle.oriedit.specs.Units.{AreUnits}
 use Rattle.oriedit.specs.Turns.{Replied}
 use Rattle.oriedit.specs.Script.{Works, KeepsTelling, RoseBy, AreAnswered, AreCutOff, DoesSome}
 use Rattle.oriedit.specs.declared.early.Early.{Early}
@@ -54,9 +54,9 @@ AnswersOne unit old clean new (Ok x) = AreAnswered old clean new (unit ∷ [])
 AnswersOne unit old clean new (Err early.WriteFault) = AreCutOff old clean new (unit ∷ [])
 AnswersOne unit old clean new (Err early.NoMemory) = AreAnswered old clean new []
 
--- the whole lines of some bytes were answered and the rest is kept, or some of them were
-abbrev pub AnswersLines : List ℕ → List ℕ → Works → Type 0 → Works → Result Unit Early → Type 0
-AnswersLines bytes kept old clean new (Ok x) =
-    (units : List (List ℕ)) × AreLines bytes units kept × AreAnswered old clean new units
-AnswersLines bytes kept old clean new (Err early.WriteFault) = DoesSome bytes (AreCutOff old clean new)
-AnswersLines bytes kept old clean new (Err early.NoMemory) = DoesSome bytes (AreAnswered old clean new)
+-- the whole units of some bytes were answered and the rest is kept, or some of the first were
+abbrev pub AnswersUnits : List ℕ → List ℕ → Works → Type 0 → Works → Result Unit Early → Type 0
+AnswersUnits bytes kept old clean new (Ok x) =
+    (units : List (List ℕ)) × AreUnits bytes units kept × AreAnswered old clean new units
+AnswersUnits bytes kept old clean new (Err early.WriteFault) = DoesSome bytes (AreCutOff old clean new)
+AnswersUnits bytes kept old clean new (Err early.NoMemory) = DoesSome bytes (AreAnswered old clean new)

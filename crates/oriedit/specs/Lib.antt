@@ -1,11 +1,15 @@
 pub mod StatusNumber
+pub mod Settings
+pub mod FirstSetting
 pub mod Words
 pub mod Reading
 pub mod ReplyText
 pub mod CutText
+pub mod CheckText
 pub mod Outputs
 pub mod Dues
 pub mod Units
+pub mod Unfinished
 pub mod Turns
 pub mod Script
 pub mod Answering

@@ -5,7 +5,7 @@ use Rattle.ports.specs.Streams.{IsFront}
 use Rattle.projects.specs.Tables.{Tables, IsTables}
 use Rattle.oriedit.specs.Reading.{Gave, IsSpent}
 use Rattle.oriedit.specs.Outputs.{Gained}
-use Rattle.oriedit.specs.Units.{AreLines, last_line}
+use Rattle.oriedit.specs.Units.{AreUnits, StandsFirst, last_unit}
 use Rattle.oriedit.specs.Turns.{TurnTables}
 use Rattle.oriedit.specs.declared.status.Status.{Status}
 use Rattle.oriedit.specs.declared.status.Status.TheVariants as status
@@ -56,27 +56,26 @@ pub record AreCutOff (old : Works) (clean : Type 0) (new : Works) (units : List 
   pub front : IsFront part last
   pub written : Gained old.held new.held (concat texts ++ part)
 
--- all lines of the bytes were done, the last one too that has no line feed
+-- all units of the bytes were done, the last one too that is not whole
 pub record DoesAll (bytes : List ℕ) (left : Option (List ℕ)) (Done : List (List ℕ) → Type 0) : Type 0 where
   pub units : List (List ℕ)
   pub rest : List ℕ
-  pub lines : AreLines bytes units rest
+  pub all : AreUnits bytes units rest
   pub spent : IsSpent left
-  pub done : Done (units ++ last_line rest)
+  pub done : Done (units ++ last_unit rest)
 
--- the lines that have a line feed were done
+-- the whole units were done
 pub record DoesWhole (bytes : List ℕ) (Done : List (List ℕ) → Type 0) : Type 0 where
   pub units : List (List ℕ)
   pub rest : List ℕ
-  pub lines : AreLines bytes units rest
+  pub all : AreUnits bytes units rest
   pub done : Done units
 
 -- some of the first of them were done
 pub record DoesSome (bytes : List ℕ) (Done : List (List ℕ) → Type 0) : Type 0 where
   pub units : List (List ℕ)
-  pub later : List (List ℕ)
   pub rest : List ℕ
-  pub lines : AreLines bytes (units ++ later) rest
+  pub all : StandsFirst bytes units rest
   pub done : Done units
 
 -- How a script ends after these bytes were taken. The limit is 2 ^ 28 bytes.
@@ -92,6 +91,7 @@ ScriptEnds bytes left old clean new status.WriteFault =
     ⊎ ((length bytes < 2 ^ 28) × DoesAll bytes left (AreCutOff old clean new))
 ScriptEnds bytes left old clean new status.NoMemory =
     (length bytes ≤ 2 ^ 28) × DoesSome bytes (AreAnswered old clean new)
+ScriptEnds bytes left old clean new status.FaultsFound = ⊥
 ScriptEnds bytes left old clean new status.Usage = ⊥
 ScriptEnds bytes left old clean new status.Refused = ⊥
 

@@ -5,6 +5,7 @@ use Rattle.oriedit.specs.declared.status.Status.TheVariants as status
 
 abbrev pub number_of : Status → ℕ
 number_of status.Ok = 0
+number_of status.FaultsFound = 1
 number_of status.Usage = 2
 number_of status.ReadFault = 3
 number_of status.WriteFault = 4

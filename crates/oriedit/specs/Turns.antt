@@ -18,6 +18,7 @@ failures (reply.Faults rev list) = 0
 failures (reply.Vertex at r) = 0
 failures (reply.Text bytes) = 0
 failures (reply.Names names) = 0
+failures (reply.Imported rev drawn dropped) = 0
 failures (reply.Refused why) = 0
 failures reply.KeeperFailed = 1
 

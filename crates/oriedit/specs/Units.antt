@@ -1,25 +1,34 @@
--- The units of a script: its lines, one after another.
-use Rattle.std.specs.Prelude.{◌≡◌, ℕ, List, [], ◌∷◌, ◌++◌, All, Contains}
+-- The units of a script, one after another: a line, and behind a line of an import the lines that belong to it.
+use Rattle.std.specs.Prelude.{◌≡◌, ℕ, List, [], ◌∷◌, ◌++◌, All, Contains, length}
 use Rattle.std.specs.List.{concat}
+use Rattle.lines.specs.Lines.{IsLine}
+use Rattle.commands.specs.Lines.{IsWanted}
 
--- a line with its line feed
-pub record IsLine (unit : List ℕ) : Type 0 where
-  pub line : List ℕ
-  pub ends : unit ≡ line ++ 10 ∷ []
-  pub one : ¬ Contains line 10
+-- a whole unit: a line, and as many lines after it as it wants, each with its line feed
+pub record IsUnit (unit : List ℕ) : Type 0 where
+  pub first : List ℕ
+  pub more : List (List ℕ)
+  pub all : unit ≡ (first ++ 10 ∷ []) ++ concat more
+  pub one : ¬ Contains first 10
+  pub lines : All IsLine more
+  pub wanted : IsWanted first (length more)
 
--- the first line of some bytes, and what stands behind it
-pub record IsFirst (bytes first later : List ℕ) : Type 0 where
-  pub whole : bytes ≡ first ++ later
-  pub line : IsLine first
+-- no whole unit stands at the front of the bytes
+abbrev pub HasNoUnit : List ℕ → Type 0
+HasNoUnit bytes = (unit later : List ℕ) → bytes ≡ unit ++ later → ¬ IsUnit unit
 
--- the whole lines of some bytes, in order, and what stands behind the last of them
-pub record AreLines (bytes : List ℕ) (units : List (List ℕ)) (rest : List ℕ) : Type 0 where
+-- the first whole units of some bytes, in order, and what stands behind them
+pub record StandsFirst (bytes : List ℕ) (units : List (List ℕ)) (rest : List ℕ) : Type 0 where
   pub all : bytes ≡ concat units ++ rest
-  pub lines : All IsLine units
-  pub unfinished : ¬ Contains rest 10
+  pub each : All IsUnit units
 
--- the last line of bytes that have ended, where it has no line feed
-abbrev pub last_line : List ℕ → List (List ℕ)
-last_line [] = []
-last_line (b ∷ bytes) = (b ∷ bytes) ∷ []
+-- all whole units of some bytes, in order, and what stands behind the last of them
+pub record AreUnits (bytes : List ℕ) (units : List (List ℕ)) (rest : List ℕ) : Type 0 where
+  pub first : StandsFirst bytes units rest
+  pub unfinished : HasNoUnit rest
+
+-- The last unit of bytes that have ended: what stands behind the whole ones. Its last line may lack the line feed, and
+-- lines that its first one wants may be lacking.
+abbrev pub last_unit : List ℕ → List (List ℕ)
+last_unit [] = []
+last_unit (b ∷ bytes) = (b ∷ bytes) ∷ []

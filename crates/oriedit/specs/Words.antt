@@ -1,19 +1,24 @@
 -- The words of the command line.
 use Rattle.std.specs.Prelude.{◌≡◌, ◌≢◌, ℕ, List, [], ◌∷◌, codes}
+use Rattle.sheet.specs.Sheet.{ExactSheet}
+use Rattle.lattice.specs.Lattice.{Measures}
+use Rattle.oriedit.specs.Settings.{AreSettings}
 use Rattle.oriedit.specs.declared.asking.Ask.{Ask}
 use Rattle.oriedit.specs.declared.asking.Ask.TheVariants as ask
 
--- what the words ask for: `cut` or `script` alone, and for all others the usage text
+-- the words of `check`, with the lattice and the sheet that they name
+abbrev pub AsksCheck : List (List ℕ) → Measures → ExactSheet → Type 0
+AsksCheck words lattice sheet =
+    (further : List (List ℕ)) × (words ≡ codes "check" ∷ further) × AreSettings further lattice sheet
+
+-- What the words ask for: `cut` or `script` alone, or `check` with its settings, and for all others the usage text.
 abbrev pub Asks : List (List ℕ) → Ask → Type 0
 Asks words ask.Cut = words ≡ codes "cut" ∷ []
+Asks words (ask.Check lattice sheet) = AsksCheck words lattice sheet
 Asks words ask.Script = words ≡ codes "script" ∷ []
-Asks words ask.Usage = (words ≢ codes "cut" ∷ []) × (words ≢ codes "script" ∷ [])
-
--- the same for a single word
-abbrev pub AsksWord : List ℕ → Ask → Type 0
-AsksWord word ask.Cut = word ≡ codes "cut"
-AsksWord word ask.Script = word ≡ codes "script"
-AsksWord word ask.Usage = (word ≢ codes "cut") × (word ≢ codes "script")
+Asks words ask.Usage =
+    (words ≢ codes "cut" ∷ []) × (words ≢ codes "script" ∷ [])
+    × ((lattice : Measures) (sheet : ExactSheet) → ¬ AsksCheck words lattice sheet)
 
 abbrev pub usage_text : List ℕ
 usage_text =

@@ -1,30 +1,33 @@
 //! The answers to the units of a script.
-ghost use Rattle.std.specs.Prelude.{◌≡◌, ◌≤◌, ◌++◌, Contains, IfSome, IsNone};
+ghost use Rattle.std.specs.Prelude.{◌≡◌, ◌≤◌, ◌++◌, IsOk};
 ghost use Rattle.oriedit.specs.Script.{works};
-ghost use Rattle.oriedit.specs.Units.{IsFirst};
-ghost use Rattle.oriedit.specs.Answering.{AnswersOne, AnswersLines, RepliesTo, WritesWhereRose};
+ghost use Rattle.oriedit.specs.Answering.{AnswersOne, AnswersUnits, RepliesTo, WritesWhereRose};
+ghost use Rattle.oriedit.specs.Unfinished.{IsUnfinished};
 
 use crate::early::Early;
-use commands::{read_command, write_bad, write_reply};
+use crate::unfinished::Unfinished;
+use commands::{read_command, wanted_is_one, write_bad, write_reply};
 use dialogue::Command;
-use ports::Sink;
+use lines::split_line;
+use ports::{Sink, Stop};
 use projects::{Desk, Keeper};
 use std::alloc::Global;
 
-/// Answers the lines that some bytes end, the first of which was begun before. What was begun of
-/// the line after them is kept.
-pub(crate) fn answer_lines<W: Sink, K: Keeper>(
+/// Answers the units that some bytes end, the first of which was begun before. What was begun of the
+/// unit after them is kept.
+pub(crate) fn answer_units<W: Sink, K: Keeper>(
     alloc: Global,
     desk: &mut Desk,
     keeper: &mut K,
     sink: &mut W,
-    line: &mut Vec<u8>,
+    unit: &mut Unfinished,
     bytes: &[u8],
 ) -> Result<(), Early>
-    requires { ¬ Contains line.old.items 10 }
-    ensures lines { AnswersLines (line.old.items ++ bytes.now) line.new.items
+    requires { IsUnfinished unit.old.bytes.items unit.old.wanted }
+    ensures units { AnswersUnits (unit.old.bytes.items ++ bytes.now) unit.new.bytes.items
         (works (W.held sink.old) (K.tables keeper.old) (K.faults keeper.old)) (K.is_clean keeper.new)
         (works (W.held sink.new) (K.tables keeper.new) (K.faults keeper.new)) result }
+    ensures unfinished { IsOk result → IsUnfinished unit.new.bytes.items unit.new.wanted }
     ensures sink_cause { WritesWhereRose (W.faults sink.old) (W.faults sink.new) result }
     ensures keeper_faults { K.faults keeper.old ≤ K.faults keeper.new }
     ensures sink_aside { W.aside sink.new ≡ W.aside sink.old }
@@ -32,23 +35,16 @@ pub(crate) fn answer_lines<W: Sink, K: Keeper>(
     ensures keeper_path { K.keeper_path keeper.new ≡ K.keeper_path keeper.old }
 {
     let mut rest = bytes;
-    while let Some((first, later)) = split_line(rest) {
-        line.extend_from_slice(first)?;
-        answer_unit(alloc, desk, keeper, sink, line)?;
-        line.clear();
+    while let Some((end, later)) = split_line(rest) {
+        if unit.end_line(end)? {
+            answer_unit(alloc, desk, keeper, sink, &unit.bytes)?;
+            unit.bytes.clear();
+        }
         rest = later;
     }
-    line.extend_from_slice(rest)?;
+    unit.bytes.extend_from_slice(rest)?;
+    wanted_is_one();
     Ok(())
-}
-
-/// The first line, with its line feed, and what stands behind it.
-fn split_line(bytes: &[u8]) -> Option<(&[u8], &[u8])>
-    ensures some { IfSome result (λ cut. IsFirst bytes.now cut.0.now cut.1.now) }
-    ensures none { IsNone result → ¬ Contains bytes.now 10 }
-{
-    let end = bytes.iter().position(|byte| *byte == b'\n')?;
-    Some(bytes.split_at(end + 1))
 }
 
 /// Answers one unit of a script.
@@ -68,13 +64,14 @@ pub(crate) fn answer_unit<W: Sink, K: Keeper>(
     ensures keeper_clean { K.is_clean keeper.new → K.is_clean keeper.old }
     ensures keeper_path { K.keeper_path keeper.new ≡ K.keeper_path keeper.old }
 {
-    match read_command(unit) {
+    match read_command(alloc, unit) {
         Ok(None) => Ok(()),
         Ok(Some(command)) => answer_command(alloc, desk, keeper, sink, &command),
-        Err(bad) => {
+        Err(Stop::Why(bad)) => {
             write_bad(sink, &bad)?;
             Ok(())
         }
+        Err(Stop::NoMemory) => Err(Early::NoMemory),
     }
 }
 

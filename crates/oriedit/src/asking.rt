@@ -1,6 +1,10 @@
 //! The words of the command line.
-ghost use Rattle.std.specs.Prelude.{◌≡◌, map, string_bytes};
-ghost use Rattle.oriedit.specs.Words.{Asks, AsksWord};
+ghost use Rattle.std.specs.Prelude.{◌≡◌, [], ◌∷◌, codes, map, string_bytes};
+ghost use Rattle.oriedit.specs.Words.{Asks};
+
+use crate::settings::settings;
+use lattice::Lattice;
+use sheet::Sheet;
 
 /// What the words ask for.
 #[derive(Clone, Copy, Debug, PartialEq, Eq)]
@@ -9,6 +13,8 @@ pub(crate) enum Ask {
     Usage,
     /// The subdivision of a pattern.
     Cut,
+    /// The faults of what a CP text draws on the sheet, by the lattice.
+    Check { lattice: Lattice, sheet: Sheet },
     /// The answers to a script.
     Script,
 }
@@ -18,14 +24,39 @@ pub(crate) fn asked(words: &[String]) -> Ask
     ensures { Asks (map string_bytes words.now) result }
 {
     match words {
-        [word] => asked_by(word.as_str()),
-        _ => Ask::Usage,
+        [] => Ask::Usage,
+        [word, further @ ..] => asked_by(word.as_str(), further),
     }
 }
 
-/// What a single word asks for.
-fn asked_by(word: &str) -> Ask
-    ensures { AsksWord word.now result }
+/// What a word with further words asks for.
+fn asked_by(word: &str, further: &[String]) -> Ask
+    ensures { Asks (word.now ∷ map string_bytes further.now) result }
+{
+    if word == "check" {
+        return asked_check(further);
+    }
+    if further.is_empty() {
+        asked_alone(word)
+    } else {
+        Ask::Usage
+    }
+}
+
+/// What `check` with further words asks for.
+fn asked_check(further: &[String]) -> Ask
+    ensures { Asks (codes "check" ∷ map string_bytes further.now) result }
+{
+    match settings(further) {
+        Some((lattice, sheet)) => Ask::Check { lattice, sheet },
+        None => Ask::Usage,
+    }
+}
+
+/// What a word other than `check` asks for alone.
+fn asked_alone(word: &str) -> Ask
+    requires { ¬ (word.now ≡ codes "check") }
+    ensures { Asks (word.now ∷ []) result }
 {
     if word == "cut" {
         Ask::Cut

@@ -1,17 +1,17 @@
-//! What each command writes for its input.
-ghost use Rattle.std.specs.Prelude.{◌≡◌, ◌≤◌, ◌⊎◌, IfOk};
-ghost use Rattle.ports.specs.Streams.{HasCause, Puts, Rose};
+//! What `cut` writes for its input, and what other words write.
+ghost use Rattle.std.specs.Prelude.{◌≡◌, ◌≤◌, IfOk};
+ghost use Rattle.ports.specs.Streams.{Rose};
 ghost use Rattle.oriedit.specs.Words.{usage_text};
 ghost use Rattle.oriedit.specs.CutText.{CutText, PatternText};
 ghost use Rattle.oriedit.specs.Dues.{text_of};
 ghost use Rattle.oriedit.specs.Run.{Answers, WritesDue};
 
 use crate::Status;
+use crate::due::{Due, Text, written};
 use crate::reply::bad_line;
-use commands::write_reply;
 use dialogue::{Cause, Reply};
 use pattern::{Pattern, read_pattern};
-use ports::{Failed, NoMemory, Sink, Stop};
+use ports::{NoMemory, Sink, Stop};
 use std::alloc::Global;
 use subdivide::scratch;
 
@@ -33,7 +33,7 @@ pub fn usage<W: Sink>(sink: &mut W) -> Status
 
 /// Writes what is due for the whole input of `cut`.
 pub fn cut<W: Sink>(alloc: Global, bytes: &[u8], sink: &mut W) -> Status
-    ensures bytes { Answers bytes.now (W.held sink.old) (W.held sink.new) result }
+    ensures bytes { Answers CutText bytes.now (W.held sink.old) (W.held sink.new) result }
     ensures fault { result ≡ Status.WriteFault → Rose (W.faults sink.old) (W.faults sink.new) }
     ensures later { W.faults sink.old ≤ W.faults sink.new }
     ensures aside { W.aside sink.new ≡ W.aside sink.old }
@@ -42,20 +42,6 @@ pub fn cut<W: Sink>(alloc: Global, bytes: &[u8], sink: &mut W) -> Status
         Ok(due) => written(sink, &due),
         Err(NoMemory) => Status::NoMemory,
     }
-}
-
-/// A text: that of a reply, or a line.
-#[derive(Drop)]
-pub(crate) enum Text {
-    Reply(Reply),
-    Line(Vec<u8>),
-}
-
-/// The text that is due, and the status once it is written.
-#[derive(Drop)]
-struct Due {
-    text: Text,
-    status: Status,
 }
 
 /// What is due for these bytes.
@@ -84,35 +70,7 @@ fn due_of_pattern(alloc: Global, pattern: &Pattern) -> Result<Due, NoMemory>
             }),
             status: Status::Ok,
         }),
-        Err(Stop::Why(bad)) => Ok(Due {
-            text: Text::Reply(Reply::Refused(Cause::Cut(bad))),
-            status: Status::Refused,
-        }),
+        Err(Stop::Why(bad)) => Ok(Due::refused(Cause::Cut(bad))),
         Err(Stop::NoMemory) => Err(NoMemory),
-    }
-}
-
-/// The status that is due, or a write fault where the text could not be written.
-fn written<W: Sink>(sink: &mut W, due: &Due) -> Status
-    ensures bytes { WritesDue (W.held sink.old) (W.held sink.new) (text_of due.now.text) due.now.status result }
-    ensures fault { result ≡ due.now.status ⊎ ((result ≡ Status.WriteFault) × Rose (W.faults sink.old) (W.faults sink.new)) }
-    ensures later { W.faults sink.old ≤ W.faults sink.new }
-    ensures aside { W.aside sink.new ≡ W.aside sink.old }
-{
-    match put_text(sink, &due.text) {
-        Ok(()) => due.status,
-        Err(_) => Status::WriteFault,
-    }
-}
-
-/// Writes a text.
-fn put_text<W: Sink>(sink: &mut W, text: &Text) -> Result<(), Failed>
-    ensures bytes { Puts (W.held sink.old) (W.held sink.new) (text_of text.now) result }
-    ensures cause { HasCause (W.faults sink.old) (W.faults sink.new) result }
-    ensures aside { W.aside sink.new ≡ W.aside sink.old }
-{
-    match text {
-        Text::Reply(reply) => write_reply(sink, reply),
-        Text::Line(line) => sink.put(line),
     }
 }

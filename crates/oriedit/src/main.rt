@@ -3,7 +3,11 @@
 
 mod answering;
 mod asking;
+#[cfg(test)]
+mod check_tests;
+mod checking;
 mod cutting;
+mod due;
 mod early;
 mod laws;
 mod program;
@@ -12,9 +16,11 @@ mod reply;
 #[cfg(test)]
 mod script_tests;
 mod scripting;
+mod settings;
 mod status;
 #[cfg(test)]
 mod tests;
+mod unfinished;
 
 pub use laws::cut_text_is_one;
 use ports::{NoMemory, StdSink, StdSource};

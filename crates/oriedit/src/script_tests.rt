@@ -194,7 +194,7 @@ fn lines_that_are_no_commands_name_their_columns(rt: HostRuntime) -> Result<(), 
     let input =
         b"\n  # a comment\nnwe sq\nnew\nnew sq 2\nnew sq 9 1\nnew sq\r\ndraw sq M 0,0 1,1 1\nvertex sq 1/1048577,0\nvertex SQ 1/1048577,0\nimport sq\n\0\nlist";
     let text =
-        b"syntax 1\nsyntax 4\nsyntax 9\nsyntax 8\ndone 0\nsyntax 19\nrange 11\nsyntax 8\nsyntax 1\nsyntax 1\nnames 1\nsq\n";
+        b"syntax 1\nsyntax 4\nsyntax 9\nsyntax 8\ndone 0\nsyntax 19\nrange 11\nsyntax 8\nsyntax 10\nsyntax 1\nnames 1\nsq\n";
     assert!(rt; answers(alloc, input, text)?);
     Ok(())
 }
@@ -284,5 +284,71 @@ fn a_question_whose_project_cannot_be_fetched_is_told(rt: HostRuntime) -> Result
         sink.bytes()[..],
         b"done 0\nkeeper-failed\ntext 1\nq2 1\n"[..]
     );
+    Ok(())
+}
+
+#[test]
+fn an_import_draws_its_lines_in_one_step(rt: HostRuntime) -> Result<(), Fail> {
+    let alloc = rt.alloc();
+    let input =
+        b"new sq\nimport sq 64 128 1000 1\n2 -200.0 -200.0 200.0 -34.31457505076198\npattern sq\n";
+    let text = b"done 0\nimported 1 1 0\ntext 2\nq2 1\nM 0,0 1,-1+1r\n";
+    assert!(rt; answers(alloc, input, text)?);
+    let input =
+        b"new sq\nimport sq 64 128 1000 2\n2 -200 -200 200 200\n1 -200 -200 200 -200\nundo sq\npattern sq\n";
+    let text = b"done 0\nimported 1 1 1\ndone 2\ntext 1\nq2 1\n";
+    assert!(rt; answers(alloc, input, text)?);
+    Ok(())
+}
+
+#[test]
+fn an_import_on_a_wide_sheet(rt: HostRuntime) -> Result<(), Fail> {
+    let alloc = rt.alloc();
+    let input =
+        b"new sq 2 1\ndraw sq M 1,0 1,1\ndraw sq M 0,0 2,2\npattern sq\nimport sq 64 128 1000 1\n3 -200 -200 200 200\n";
+    let text = b"done 0\ndone 1\nrefused Outside\ntext 2\nq2 2 2 1\nM 1,0 1,1\nimported 2 1 0\n";
+    assert!(rt; answers(alloc, input, text)?);
+    Ok(())
+}
+
+#[test]
+fn an_import_takes_just_its_lines(rt: HostRuntime) -> Result<(), Fail> {
+    let alloc = rt.alloc();
+    // its lines are no commands, the line behind them is one
+    let input = b"new sq\nimport sq 64 128 1000 2\nlist\n\nlist\nimport sq 64 128 1000 0\nlist\n";
+    let text = b"done 0\nrefused Line line 1\nnames 1\nsq\nrefused NoChange\nnames 1\nsq\n";
+    assert!(rt; answers(alloc, input, text)?);
+    // a line that is wrong wants none
+    let input = b"new sq\nimport sq 64 63 1000 1\nlist";
+    let text = b"done 0\nsyntax 14\nnames 1\nsq\n";
+    assert!(rt; answers(alloc, input, text)?);
+    Ok(())
+}
+
+#[test]
+fn an_import_that_lacks_lines_at_the_end(rt: HostRuntime) -> Result<(), Fail> {
+    let alloc = rt.alloc();
+    let input = b"new sq\nimport sq 64 128 1000 2\n2 -200 -200 200 200\n";
+    assert!(rt; answers(alloc, input, b"done 0\nsyntax 23\n")?);
+    // the last line needs no line feed
+    let input = b"new sq\nimport sq 64 128 1000 1\n2 -200 -200 200 200";
+    assert!(rt; answers(alloc, input, b"done 0\nimported 1 1 0\n")?);
+    Ok(())
+}
+
+#[test]
+fn a_read_fault_leaves_an_import_that_lacks_lines(rt: HostRuntime) -> Result<(), Fail> {
+    let alloc = rt.alloc();
+    let input = b"new sq\nimport sq 64 128 1000 2\n2 -200 -200 200 200\n".to_vec(alloc)?;
+    let mut source = MemSource::new(input, 4096, [2u64].to_vec(alloc)?);
+    let (status, sink) = script_of(
+        alloc,
+        &mut source,
+        Vec::new(alloc),
+        Vec::new(alloc),
+        Vec::new(alloc),
+    )?;
+    assert_eq!(rt; status, Status::ReadFault);
+    assert_eq!(rt; sink.bytes()[..], b"done 0\n"[..]);
     Ok(())
 }

@@ -1,12 +1,12 @@
-//! Scripts: commands, one a line, each answered before the next is read.
-ghost use Rattle.std.specs.Prelude.{◌≡◌, ◌≤◌, ◌++◌, Contains};
+//! Scripts: commands, one after another, each answered before the next is read.
+ghost use Rattle.std.specs.Prelude.{◌≡◌, ◌≤◌};
 ghost use Rattle.ports.specs.Streams.{Rose};
 ghost use Rattle.oriedit.specs.Script.{works, ScriptRuns};
-ghost use Rattle.oriedit.specs.Answering.{AnswersLines};
 ghost use Rattle.oriedit.specs.Lasting.{AnswersLast};
 
 use crate::Status;
-use crate::answering::{answer_lines, answer_unit};
+use crate::answering::{answer_unit, answer_units};
+use crate::unfinished::Unfinished;
 use ports::{Sink, Source};
 use projects::{Desk, Keeper};
 use std::alloc::Global;
@@ -14,11 +14,11 @@ use std::alloc::Global;
 /// The input of a script has fewer bytes than this, 2^28.
 const LIMIT: usize = 268_435_456;
 
-/// Reads commands, one a line, and writes the reply to each before it reads the next. A blank line
-/// and a comment have no reply; a line that is no command is answered by what is wrong with it, and
-/// the script goes on, as it does after a refusal and after a failure of the keeper. The input has
-/// fewer than 2^28 bytes. At a read fault, and where the input is too long, the unfinished line is
-/// not done.
+/// Reads commands, each a line, an import with the lines that it wants, and writes the reply to each
+/// before it reads the next. A blank line and a comment have no reply; a text that is no command is
+/// answered by what is wrong with it, and the script goes on, as it does after a refusal and after a
+/// failure of the keeper. The input has fewer than 2^28 bytes. At a read fault, and where the input is
+/// too long, the unfinished command is not done.
 pub fn script<S: Source, W: Sink, K: Keeper>(
     alloc: Global,
     source: &mut S,
@@ -41,18 +41,18 @@ pub fn script<S: Source, W: Sink, K: Keeper>(
     let Ok(mut desk) = Desk::new(alloc) else {
         return Status::NoMemory;
     };
-    let mut line = Vec::new(alloc);
+    let mut unit = Unfinished::new(alloc);
     let mut taken = 0;
     let mut block = [0u8; 4096];
     while taken < LIMIT {
         let room = (LIMIT - taken).min(4096);
         match source.take(&mut block[..room]) {
             Err(_) => return Status::ReadFault,
-            Ok(0) => return answer_last(alloc, &mut desk, keeper, sink, &line),
+            Ok(0) => return answer_last(alloc, &mut desk, keeper, sink, &unit.bytes),
             Ok(count) => {
                 taken += count;
                 let piece = &block[..count];
-                if let Err(early) = answer_lines(alloc, &mut desk, keeper, sink, &mut line, piece) {
+                if let Err(early) = answer_units(alloc, &mut desk, keeper, sink, &mut unit, piece) {
                     return early.status();
                 }
             }
@@ -61,15 +61,15 @@ pub fn script<S: Source, W: Sink, K: Keeper>(
     Status::TooLong
 }
 
-/// Answers the last line of a script, if there is one without a line feed.
+/// Answers the last unit of a script, if there is one that is not whole.
 fn answer_last<W: Sink, K: Keeper>(
     alloc: Global,
     desk: &mut Desk,
     keeper: &mut K,
     sink: &mut W,
-    line: &[u8],
+    unit: &[u8],
 ) -> Status
-    ensures last { AnswersLast line.now
+    ensures last { AnswersLast unit.now
         (works (W.held sink.old) (K.tables keeper.old) (K.faults keeper.old)) (K.is_clean keeper.new)
         (works (W.held sink.new) (K.tables keeper.new) (K.faults keeper.new)) result }
     ensures write_fault { result ≡ Status.WriteFault → Rose (W.faults sink.old) (W.faults sink.new) }
@@ -79,10 +79,10 @@ fn answer_last<W: Sink, K: Keeper>(
     ensures keeper_clean { K.is_clean keeper.new → K.is_clean keeper.old }
     ensures keeper_path { K.keeper_path keeper.new ≡ K.keeper_path keeper.old }
 {
-    if line.is_empty() {
+    if unit.is_empty() {
         return Status::Ok;
     }
-    match answer_unit(alloc, desk, keeper, sink, line) {
+    match answer_unit(alloc, desk, keeper, sink, unit) {
         Ok(()) => Status::Ok,
         Err(early) => early.status(),
     }

@@ -7,6 +7,8 @@ ghost use Rattle.oriedit.specs.StatusNumber.{number_of};
 pub enum Status {
     /// 0: the command did its work, and its input was read to its end.
     Ok,
+    /// 1: the input of `check` was accepted and has faults; they were written.
+    FaultsFound,
     /// 2: the words are not those of a command; the usage text was written.
     Usage,
     /// 3: the input could not be read.
@@ -28,6 +30,7 @@ impl Status {
     {
         match self {
             Status::Ok => 0,
+            Status::FaultsFound => 1,
             Status::Usage => 2,
             Status::ReadFault => 3,
             Status::WriteFault => 4,

@@ -1,6 +1,7 @@
 use Rattle.std.proofs.Common.{rules, ◌≡◌, ◌≤◌, ◌<◌, ◌++◌, ◌+◌, length, take, drop, refl, sym, subst, ◌∙◌, arith}
 use Rattle.oriedit.specs.Script.{ScriptRuns}
 use Rattle.oriedit.proofs.Taken.{takes_at_most}
+use Rattle.oriedit.proofs.UnitEnds.{nothing_kept}
 use Rattle.oriedit.proofs.SoFar.{nothing_read, more_read, ended_at, ended, nothing_done, end_gave, end_spent, read_on, piece_gave, piece_length}
 use Rattle.oriedit.proofs.scripting.script.Goals as goal
 
@@ -9,7 +10,8 @@ returns-in_default-clause-script g c = nothing_done _ _ _
 
 pub loop-taken-init : goal.loop-taken-init
 loop-taken-init g c = record {
-  so_far = nothing_read _ _ _ _ c.new-line.ensures.items;
+  so_far = nothing_read _ _ _ _ c.new-unit.ensures.bytes;
+  unfinished = nothing_kept _ _ c.new-unit.ensures.bytes c.new-unit.ensures.wanted;
   within = omega arith;
   source_faults = omega arith;
   sink_faults = omega arith;
@@ -30,15 +32,15 @@ returns-in-Ok-eq0-clause-script g c =
     (read_on _ _ _ _ _ _ _ _ r gave)
     c.deref.ensures.value c.answer_last.ensures.last
 
-pub returns-in-Err-answer_lines-clause-script : goal.returns-in-Err-answer_lines-clause-script
-returns-in-Err-answer_lines-clause-script g c =
+pub returns-in-Err-answer_units-clause-script : goal.returns-in-Err-answer_units-clause-script
+returns-in-Err-answer_units-clause-script g c =
     let r = c.loop-taken.invariant.so_far in
     let given = takes_at_most _ _ _ _ _ _ c.in-Ok-take.ensures.bytes in
     let fits : c.in-Ok-take.count ≤ length c.take.new.buf = search (rules, given) in
     let long = piece_length c.take.new.buf (drop c.min-room.result c.loop-taken.block) c.in-Ok-take.count fits in
     let gave = piece_gave _ _ _ _ r.bytes _ c.take.new.buf (drop c.min-room.result c.loop-taken.block) c.in-Ok-take.count fits r.gave c.in-Ok-take.ensures.bytes in
     subst (ScriptRuns _ _ _ _ _) (sym c.status.ensures)
-    (ended_at _ _ _ _ _ c.answer_lines.new.line.items _ _ _ _ _ _ c.in-Err-answer_lines.early c.in-Err-answer_lines.ensures.keeper_clean r gave (search (rules, long, given)) c.in-Err-answer_lines.ensures.lines)
+    (ended_at _ _ _ _ _ c.answer_units.new.unit.bytes.items _ _ _ _ _ _ c.in-Err-answer_units.early c.in-Err-answer_units.ensures.keeper_clean r gave (search (rules, long, given)) c.in-Err-answer_units.ensures.units)
 
 pub loop-taken-preserved : goal.loop-taken-preserved
 loop-taken-preserved g c =
@@ -49,13 +51,14 @@ loop-taken-preserved g c =
     let long = piece_length c.take.new.buf rest c.in-Ok-take.count fits in
     let gave = piece_gave _ _ _ _ r.bytes _ c.take.new.buf rest c.in-Ok-take.count fits r.gave c.in-Ok-take.ensures.bytes in
     record {
-      so_far = more_read _ _ _ _ (take c.in-Ok-take.count (c.take.new.buf ++ rest)) c.answer_lines.new.line.items c.loop-taken.taken (c.loop-taken.taken + c.in-Ok-take.count) _ _ _ _ _ c.in_default-answer_lines.ensures.keeper_clean r gave (omega (arith, long)) c.in_default-answer_lines.ensures.lines;
+      so_far = more_read _ _ _ _ (take c.in-Ok-take.count (c.take.new.buf ++ rest)) c.answer_units.new.unit.bytes.items c.loop-taken.taken (c.loop-taken.taken + c.in-Ok-take.count) _ _ _ _ _ c.in_default-answer_units.ensures.keeper_clean r gave (omega (arith, long)) c.in_default-answer_units.ensures.units;
+      unfinished = c.in_default-answer_units.ensures.unfinished refl;
       within = search (rules, given);
       source_faults = omega (arith, c.loop-taken.invariant.source_faults, c.in-Ok-take.ensures.cause.later);
-      sink_faults = omega (arith, c.loop-taken.invariant.sink_faults, c.in_default-answer_lines.ensures.sink_cause.later);
-      keeper_faults = omega (arith, c.loop-taken.invariant.keeper_faults, c.in_default-answer_lines.ensures.keeper_faults);
+      sink_faults = omega (arith, c.loop-taken.invariant.sink_faults, c.in_default-answer_units.ensures.sink_cause.later);
+      keeper_faults = omega (arith, c.loop-taken.invariant.keeper_faults, c.in_default-answer_units.ensures.keeper_faults);
       source_aside = c.in-Ok-take.ensures.aside ∙ c.loop-taken.invariant.source_aside;
-      sink_aside = c.in_default-answer_lines.ensures.sink_aside ∙ c.loop-taken.invariant.sink_aside;
-      keeper_clean = λ x. c.loop-taken.invariant.keeper_clean (c.in_default-answer_lines.ensures.keeper_clean x);
-      keeper_path = c.in_default-answer_lines.ensures.keeper_path ∙ c.loop-taken.invariant.keeper_path;
+      sink_aside = c.in_default-answer_units.ensures.sink_aside ∙ c.loop-taken.invariant.sink_aside;
+      keeper_clean = λ x. c.loop-taken.invariant.keeper_clean (c.in_default-answer_units.ensures.keeper_clean x);
+      keeper_path = c.in_default-answer_units.ensures.keeper_path ∙ c.loop-taken.invariant.keeper_path;
     }

@@ -1,0 +1,28 @@
+-- The settings of `check` as they are read, the first one first.
+use Rattle.std.specs.Prelude.{◌≡◌, ℕ, ◌⊎◌, List, [], ◌∷◌, ◌++◌, All, Contains, Option, Some, None, codes}
+use Rattle.oriedit.specs.Settings.{Setting, setting, IsInRange, IsSpelled, AreSpelled, AreOnce, LeavesOut}
+use Rattle.oriedit.specs.declared.settings.Quantity.{Quantity}
+
+-- The bytes behind the name of an option and the words behind its word give it this value; these words are left.
+abbrev pub IsValue : List ℕ → List (List ℕ) → List ℕ → List (List ℕ) → Type 0
+IsValue rest later value behind =
+    ((rest ≡ []) × (later ≡ value ∷ behind)) ⊎ ((rest ≡ codes "=" ++ value) × (behind ≡ later))
+
+-- the words begin with this setting, and these are left
+pub record IsFirst (words : List (List ℕ)) (s : Setting) (behind : List (List ℕ)) : Type 0 where
+  pub own : List (List ℕ)
+  pub whole : words ≡ own ++ behind
+  pub spelled : IsSpelled s own
+  pub in_range : IsInRange s
+
+-- the words are settings, none of them made twice
+pub record AreRight (words : List (List ℕ)) : Type 0 where
+  pub settings : List Setting
+  pub spelled : AreSpelled settings words
+  pub once : AreOnce settings
+  pub in_range : All IsInRange settings
+
+-- what the settings give to a quantity
+abbrev pub IsSetTo : List Setting → Quantity → Option ℕ → Type 0
+IsSetTo settings q (Some n) = Contains settings (setting q n)
+IsSetTo settings q None = LeavesOut settings q
