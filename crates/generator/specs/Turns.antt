@@ -39,7 +39,10 @@ start i j = record { x = sixteenths i; y = sixteenths j }
 
 -- the point that lies n / 16 of the vector of direction k from a point
 abbrev pub ahead : ℕ → ℕ → ExactPoint → ExactPoint
-ahead n k p = record { x = add p.x (mul (sixteenths n) (vector k).x); y = add p.y (mul (sixteenths n) (vector k).y) }
+ahead n k p = record {
+  x = add p.x (mul (sixteenths n) (vector k).x);
+  y = add p.y (mul (sixteenths n) (vector k).y);
+}
 
 -- p is a point in lowest terms
 pub record IsPoint (exact p : ExactPoint) : Type 0 where
@@ -61,7 +64,8 @@ abbrev pub IsTurnChange : ℕ → Change → ℕ → Type 0
 IsTurnChange s c next =
     ((number 1 s % 8 ≡ 6) × (c ≡ change.Undo) × (next ≡ after 1 s))
     ⊎ ((number 1 s % 8 ≡ 7) × (c ≡ change.Redo) × (next ≡ after 1 s))
-    ⊎ ((number 1 s % 8 < 6) × ((drawing : Edit) × IsDrawn (after 1 s) drawing × (c ≡ change.Edit drawing)) × (next ≡ after 6 s))
+    ⊎ ((number 1 s % 8 < 6)
+    × ((drawing : Edit) × IsDrawn (after 1 s) drawing × (c ≡ change.Edit drawing)) × (next ≡ after 6 s))
 
 -- the command of a turn for the project of this name
 abbrev pub IsTurn : List ℕ → ℕ → Command → ℕ → Type 0

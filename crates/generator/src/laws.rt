@@ -5,5 +5,6 @@ ghost use Rattle.generator.specs.Turns.{IsTurn};
 
 /// A turn has one command, and leaves one state.
 pub fn turn_is_one()
-    ensures { (name : List ℕ) (s : ℕ) (c d : AnyCommand) (m n : ℕ) → IsTurn name s c m → IsTurn name s d n → (c ≡ d) × (m ≡ n) }
+    ensures { (name : List ℕ) (s : ℕ) (c d : AnyCommand) (m n : ℕ)
+        → IsTurn name s c m → IsTurn name s d n → (c ≡ d) × (m ≡ n) }
 {}

@@ -16,9 +16,12 @@ tail [] = []
 tail (w ∷ ws) = ws
 
 -- `check` with words that are not its settings
-pub no_check : (further : List (List ℕ)) → ((lattice : Measures) (sheet : ExactSheet) → ¬ AreSettings further lattice sheet) → Asks (codes "check" ∷ further) ask.Usage
+pub no_check : (further : List (List ℕ))
+    → ((lattice : Measures) (sheet : ExactSheet) → ¬ AreSettings further lattice sheet)
+    → Asks (codes "check" ∷ further) ask.Usage
 no_check further n = (
   λ e. let h = ap head e in cc,
   λ e. let h = ap head e in cc,
   λ lattice sheet a. n lattice sheet (subst (λ w. AreSettings w lattice sheet) (sym (ap tail a.1)) a.2),
+  λ seed count a. let h = ap head a.0 in cc,
 )

@@ -47,7 +47,8 @@ cut_due bytes text s (inl p) = pattern_due p.0 s text p.2
 cut_due bytes text s (inr p) = subst IsDue (sym p.2) Rejected
 
 -- a refusal of cutting is due
-pub refused : (pattern : ExactPattern) (b : CutBad) → Refuses (IsCutAnswer pattern) (stop.Why b) → (text : List ℕ) → text ≡ refusal_text b → PatternText pattern status.Refused text
+pub refused : (pattern : ExactPattern) (b : CutBad) → Refuses (IsCutAnswer pattern) (stop.Why b)
+    → (text : List ℕ) → text ≡ refusal_text b → PatternText pattern status.Refused text
 refused pattern (bad.CrossRange s t) r text e = (Answer.CrossRange s t, r, refl, e)
 refused pattern bad.TooManyVertices r text e = (Answer.TooManyVertices, r, refl, e)
 
@@ -55,39 +56,49 @@ faults_due : (faults : List Fault) → IsDue (faults_status faults)
 faults_due [] = Accepted
 faults_due (fault ∷ faults) = Found
 
-judged_due : (pattern : ExactPattern) (answer : Answer) (s : Status) (text : List ℕ) → JudgedText pattern answer s text → IsDue s
+judged_due : (pattern : ExactPattern) (answer : Answer) (s : Status) (text : List ℕ)
+    → JudgedText pattern answer s text → IsDue s
 judged_due pattern (Answer.CrossRange f t) s text j = subst IsDue (sym j.0) Rejected
 judged_due pattern Answer.TooManyVertices s text j = subst IsDue (sym j.0) Rejected
 judged_due pattern (Answer.Cut vs es) s text j = subst IsDue (sym j.2) (faults_due j.0)
 
-drawn_due : (sheet : ExactSheet) (drawn : Result ExactPattern EditBad) (s : Status) (text : List ℕ) → DrawnText sheet drawn s text → IsDue s
+drawn_due : (sheet : ExactSheet) (drawn : Result ExactPattern EditBad) (s : Status) (text : List ℕ)
+    → DrawnText sheet drawn s text → IsDue s
 drawn_due sheet (Ok pattern) s text d = judged_due pattern d.0 s text d.2
 drawn_due sheet (Err bad) s text (inl d) = judged_due (empty_on sheet) d.1.0 s text d.1.2
 drawn_due sheet (Err bad) s text (inr d) = subst IsDue (sym d.1) Rejected
 
-cp_due : (sheet : ExactSheet) (read : Result CpLines CpBad) (s : Status) (text : List ℕ) → CpAnswerText sheet read s text → IsDue s
+cp_due : (sheet : ExactSheet) (read : Result CpLines CpBad) (s : Status) (text : List ℕ)
+    → CpAnswerText sheet read s text → IsDue s
 cp_due sheet (Ok read) s text d = drawn_due sheet d.0 s text d.2
 cp_due sheet (Err bad) s text d = subst IsDue (sym d.0) Rejected
 
-pub check_due : (lattice : Measures) (sheet : ExactSheet) (bytes text : List ℕ) (s : Status) → CheckText lattice sheet bytes s text → IsDue s
+pub check_due : (lattice : Measures) (sheet : ExactSheet) (bytes text : List ℕ) (s : Status)
+    → CheckText lattice sheet bytes s text → IsDue s
 check_due lattice sheet bytes text s d = cp_due sheet d.0 s text d.2
 
 -- a refusal of cutting is due for the faults of a pattern too
-pub faults_refused : (pattern : ExactPattern) (b : CutBad) → Refuses (IsCutAnswer pattern) (stop.Why b) → (text : List ℕ) → text ≡ refusal_text b → FaultsText pattern status.Refused text
+pub faults_refused : (pattern : ExactPattern) (b : CutBad) → Refuses (IsCutAnswer pattern) (stop.Why b)
+    → (text : List ℕ) → text ≡ refusal_text b → FaultsText pattern status.Refused text
 faults_refused pattern (bad.CrossRange s t) r text e = (Answer.CrossRange s t, r, (refl, e))
 faults_refused pattern bad.TooManyVertices r text e = (Answer.TooManyVertices, r, (refl, e))
 
 -- a text that was written
-came_due : (Due : Dues) (bytes text : List ℕ) (held now : Option (List ℕ)) (due : Status) → IsDue due → Due bytes due text → Gained held now text → Answers Due bytes held now due
+came_due : (Due : Dues) (bytes text : List ℕ) (held now : Option (List ℕ)) (due : Status) → IsDue due
+    → Due bytes due text → Gained held now text → Answers Due bytes held now due
 came_due Due bytes text held now due Accepted t w = (text, t, w)
 came_due Due bytes text held now due Found t w = (text, t, w)
 came_due Due bytes text held now due Rejected t w = (text, t, w)
 
-pub answered : (Due : Dues) (bytes text : List ℕ) (held now : Option (List ℕ)) (due came : Status) → IsDue due → Due bytes due text → WritesDue held now text due came → Answers Due bytes held now came
-answered Due bytes text held now due came d t (inl w) = let P : Status → Type 0 = λ s. Answers Due bytes held now s in subst P (sym w.0) (came_due Due bytes text held now due d t w.1)
-answered Due bytes text held now due came d t (inr w) = let P : Status → Type 0 = λ s. Answers Due bytes held now s in subst P (sym w.0) (due, text, t, w.1)
+pub answered : (Due : Dues) (bytes text : List ℕ) (held now : Option (List ℕ)) (due came : Status) → IsDue due
+    → Due bytes due text → WritesDue held now text due came → Answers Due bytes held now came
+answered Due bytes text held now due came d t (inl w) =
+    let P : Status → Type 0 = λ s. Answers Due bytes held now s in subst P (sym w.0) (came_due Due bytes text held now due d t w.1)
+answered Due bytes text held now due came d t (inr w) =
+    let P : Status → Type 0 = λ s. Answers Due bytes held now s in subst P (sym w.0) (due, text, t, w.1)
 
-pub ends : (Due : Dues) (bytes : List ℕ) (left held now : Option (List ℕ)) (s : Status) → IsSpent left → length bytes < 2 ^ 24 → Answers Due bytes held now s → Ends Due bytes left held now s
+pub ends : (Due : Dues) (bytes : List ℕ) (left held now : Option (List ℕ)) (s : Status) → IsSpent left
+    → length bytes < 2 ^ 24 → Answers Due bytes held now s → Ends Due bytes left held now s
 ends Due bytes left held now status.Ok e l a = ((e, l), a)
 ends Due bytes left held now status.FaultsFound e l a = ((e, l), a)
 ends Due bytes left held now status.Refused e l a = ((e, l), a)
@@ -103,9 +114,11 @@ given P Q (Ok a) f h = f a h
 given P Q (Err e) f h = h
 
 -- the text of a refusal of cutting
-pub refused_so : (b : CutBad) (t : Text) → t ≡ written.Reply (reply.Refused (cause.Cut b)) → text_of t ≡ refusal_text b
+pub refused_so : (b : CutBad) (t : Text) → t ≡ written.Reply (reply.Refused (cause.Cut b))
+    → text_of t ≡ refusal_text b
 refused_so b t e = ap text_of e
 
 -- the text of a CP text's refusal
-pub cp_refused : (b : CpBad) (t : Text) → t ≡ written.Reply (reply.Refused (cause.Cp b)) → text_of t ≡ refused_text (cause_text (cause.Cp b))
+pub cp_refused : (b : CpBad) (t : Text) → t ≡ written.Reply (reply.Refused (cause.Cp b))
+    → text_of t ≡ refused_text (cause_text (cause.Cp b))
 cp_refused b t e = ap text_of e

@@ -9,7 +9,8 @@ use Rattle.oriedit.specs.Turns.{Turns, TurnTables}
 use Rattle.oriedit.specs.Script.{Works, RoseBy, AreDone, AreAnswered, AreCutOff}
 
 -- turns, and more after them
-turns_more : (before mid after : Entries) (us vs ts rs : List (List ℕ)) (m n : ℕ) → Turns before us ts m mid → Turns mid vs rs n after → Turns before (us ++ vs) (ts ++ rs) (m + n) after
+turns_more : (before mid after : Entries) (us vs ts rs : List (List ℕ)) (m n : ℕ) → Turns before us ts m mid
+    → Turns mid vs rs n after → Turns before (us ++ vs) (ts ++ rs) (m + n) after
 turns_more before mid after [] vs [] rs m n p q =
     let e : n ≡ m + n = omega (arith, p.0) in
     subst (λ k. Turns before vs rs k after) e (subst (λ x. Turns x vs rs n after) p.1 q)
@@ -19,7 +20,9 @@ turns_more before mid after (u ∷ us) vs (t ∷ ts) rs m n p q =
     let e : m + n ≡ p.1 + (p.2 + n) = omega (arith, p.5) in
     (p.0, p.1, p.2 + n, p.3, turns_more p.0 mid after us vs ts rs p.2 n p.4 q, e)
 
-tables_more : (before mid after : Tables) (us vs ts rs : List (List ℕ)) (m n : ℕ) → TurnTables before us ts m mid → TurnTables mid vs rs n after → TurnTables before (us ++ vs) (ts ++ rs) (m + n) after
+tables_more : (before mid after : Tables) (us vs ts rs : List (List ℕ)) (m n : ℕ)
+    → TurnTables before us ts m mid → TurnTables mid vs rs n after
+    → TurnTables before (us ++ vs) (ts ++ rs) (m + n) after
 tables_more before mid after us vs ts rs m n p q = λ entries s.
     let a = p entries s in
     let b = q a.0 a.1 in
@@ -40,7 +43,8 @@ pub concat_more : (xs ys : List (List ℕ)) → concat (xs ++ ys) ≡ concat xs 
 concat_more [] ys = refl
 concat_more (x ∷ xs) ys = ap (λ t. x ++ t) (concat_more xs ys) ∙ sym (append_assoc x (concat xs) (concat ys))
 
-done_more : (old mid new : Works) (C D : Type 0) → (D → C) → (us vs ts rs : List (List ℕ)) (m n : ℕ) → AreDone old C mid us ts m → AreDone mid D new vs rs n → AreDone old D new (us ++ vs) (ts ++ rs) (m + n)
+done_more : (old mid new : Works) (C D : Type 0) → (D → C) → (us vs ts rs : List (List ℕ)) (m n : ℕ)
+    → AreDone old C mid us ts m → AreDone mid D new vs rs n → AreDone old D new (us ++ vs) (ts ++ rs) (m + n)
 done_more old mid new C D f us vs ts rs m n p q = record {
   told = λ before e clean.
       let a = p.told before e (f clean) in
@@ -55,7 +59,8 @@ done_more old mid new C D f us vs ts rs m n p q = record {
   counted = rose_more old.faults mid.faults new.faults m n p.counted q.counted;
 }
 
-pub answered_more : (old mid new : Works) (C D : Type 0) → (D → C) → (us vs : List (List ℕ)) → AreAnswered old C mid us → AreAnswered mid D new vs → AreAnswered old D new (us ++ vs)
+pub answered_more : (old mid new : Works) (C D : Type 0) → (D → C) → (us vs : List (List ℕ))
+    → AreAnswered old C mid us → AreAnswered mid D new vs → AreAnswered old D new (us ++ vs)
 answered_more old mid new C D f us vs p q = record {
   texts = p.texts ++ q.texts;
   fails = p.fails + q.fails;
@@ -64,7 +69,8 @@ answered_more old mid new C D f us vs p q = record {
       (gained_more old.held mid.held new.held (concat p.texts) (concat q.texts) p.written q.written);
 }
 
-pub cut_off_more : (old mid new : Works) (C D : Type 0) → (D → C) → (us vs : List (List ℕ)) → AreAnswered old C mid us → AreCutOff mid D new vs → AreCutOff old D new (us ++ vs)
+pub cut_off_more : (old mid new : Works) (C D : Type 0) → (D → C) → (us vs : List (List ℕ))
+    → AreAnswered old C mid us → AreCutOff mid D new vs → AreCutOff old D new (us ++ vs)
 cut_off_more old mid new C D f us vs p q =
     let texts : (p.texts ++ (q.texts ++ q.last ∷ [])) ≡ ((p.texts ++ q.texts) ++ q.last ∷ []) = sym (append_assoc p.texts q.texts (q.last ∷ [])) in
     let written = gained_more old.held mid.held new.held (concat p.texts) (concat q.texts ++ q.part) p.written q.written in

@@ -14,11 +14,13 @@ use Rattle.oriedit.proofs.Answered.{nothing_yet}
 pub no_last : (rest : List ℕ) (w : Works) (clean : Type 0) → rest ≡ [] → AnswersLast rest w clean w status.Ok
 no_last rest w clean e = subst (λ r. AreAnswered w clean w (last_unit r)) (sym e) (nothing_yet w clean)
 
-pub last_answered : (rest : List ℕ) (old new : Works) (clean : Type 0) → rest ≢ [] → AnswersOne rest old clean new (Ok tt) → AnswersLast rest old clean new status.Ok
+pub last_answered : (rest : List ℕ) (old new : Works) (clean : Type 0) → rest ≢ []
+    → AnswersOne rest old clean new (Ok tt) → AnswersLast rest old clean new status.Ok
 last_answered [] old new clean n a = absurd (n refl)
 last_answered (b ∷ rest) old new clean n a = a
 
-pub last_ended : (rest : List ℕ) (old new : Works) (clean : Type 0) (e : Early) → rest ≢ [] → AnswersOne rest old clean new (Err e) → AnswersLast rest old clean new (status_of e)
+pub last_ended : (rest : List ℕ) (old new : Works) (clean : Type 0) (e : Early) → rest ≢ []
+    → AnswersOne rest old clean new (Err e) → AnswersLast rest old clean new (status_of e)
 last_ended [] old new clean e n a = absurd (n refl)
 last_ended (b ∷ rest) old new clean early.WriteFault n a = a
 last_ended (b ∷ rest) old new clean early.NoMemory n a = a

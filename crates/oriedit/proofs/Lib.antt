@@ -9,3 +9,6 @@ pub mod Lasting
 pub mod SoFar
 pub mod SettingLists
 pub mod AskedWords
+pub mod Pieces
+pub mod Stepping
+pub mod Rounds

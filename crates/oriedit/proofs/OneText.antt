@@ -9,10 +9,13 @@ use Rattle.oriedit.specs.ReplyText.{bad_cause}
 use Rattle.oriedit.specs.CutText.{CutText, PatternText, answer_text, answer_status}
 use Rattle.oriedit.specs.declared.status.Status.{Status}
 
-of_pattern : (pattern : ExactPattern) → IsPattern pattern → (s r : Status) (text other : List ℕ) → PatternText pattern s text → PatternText pattern r other → (s ≡ r) × (text ≡ other)
-of_pattern pattern p s r text other a b = let e = one_answer pattern a.0 b.0 p a.1 b.1 in (a.2 ∙ ap answer_status e ∙ sym b.2, a.3 ∙ ap answer_text e ∙ sym b.3)
+of_pattern : (pattern : ExactPattern) → IsPattern pattern → (s r : Status) (text other : List ℕ)
+    → PatternText pattern s text → PatternText pattern r other → (s ≡ r) × (text ≡ other)
+of_pattern pattern p s r text other a b =
+    let e = one_answer pattern a.0 b.0 p a.1 b.1 in (a.2 ∙ ap answer_status e ∙ sym b.2, a.3 ∙ ap answer_text e ∙ sym b.3)
 
-pub one_text : (bytes : List ℕ) (s r : Status) (text other : List ℕ) → CutText bytes s text → CutText bytes r other → (s ≡ r) × (text ≡ other)
+pub one_text : (bytes : List ℕ) (s r : Status) (text other : List ℕ) → CutText bytes s text
+    → CutText bytes r other → (s ≡ r) × (text ≡ other)
 one_text bytes s r text other (inl a) (inl b) =
     let e : a.0 ≡ b.0 = one_pattern a.0 b.0 a.1.0 b.1.0 (sym a.1.1 ∙ b.1.1) in
     of_pattern b.0 b.1.0 s r text other (subst (λ z. PatternText z s text) e a.2) b.2

@@ -61,7 +61,8 @@ third_letter quantity.W rest = refl
 third_letter quantity.H rest = refl
 
 -- a word names one option
-pub same_option : (q p : Quantity) (r s : List ℕ) → option_word q ++ r ≡ option_word p ++ s → (q ≡ p) × (r ≡ s)
+pub same_option : (q p : Quantity) (r s : List ℕ) → option_word q ++ r ≡ option_word p ++ s
+    → (q ≡ p) × (r ≡ s)
 same_option q p r s e =
     let h = same_letter q p (sym (third_letter q r) ∙ ap third e ∙ third_letter p s) in
     (h, append_cancel_left (option_word p) r s (subst (λ x. option_word x ++ r ≡ option_word p ++ s) h e))
@@ -75,7 +76,9 @@ tail [] = []
 tail (w ∷ ws) = ws
 
 -- an option with its value, in one word or in two
-pub begins : (word rest : List ℕ) (later behind : List (List ℕ)) (s : Setting) → word ≡ option_word s.quantity ++ rest → IsValue rest later (decimal s.number) behind → IsInRange s → IsFirst (word ∷ later) s behind
+pub begins : (word rest : List ℕ) (later behind : List (List ℕ)) (s : Setting)
+    → word ≡ option_word s.quantity ++ rest → IsValue rest later (decimal s.number) behind → IsInRange s
+    → IsFirst (word ∷ later) s behind
 begins word rest later behind s e (inl v) r = record {
   own = option_word s.quantity ∷ decimal s.number ∷ [];
   whole = (let f = e ∙ ap (λ t. option_word s.quantity ++ t) v.0 ∙ append-nil (option_word s.quantity) in ap (λ t. t ∷ later) f ∙ ap (λ t. option_word s.quantity ∷ t) v.1);
@@ -95,7 +98,8 @@ pub record HasOption (word : List ℕ) (later : List (List ℕ)) (s : Setting) (
   pub names : word ≡ option_word s.quantity ++ rest
   pub value : IsValue rest later (decimal s.number) behind
 
-cut_by : (word : List ℕ) (later own behind : List (List ℕ)) (s : Setting) → word ∷ later ≡ own ++ behind → IsSpelled s own → HasOption word later s behind
+cut_by : (word : List ℕ) (later own behind : List (List ℕ)) (s : Setting) → word ∷ later ≡ own ++ behind
+    → IsSpelled s own → HasOption word later s behind
 cut_by word later own behind s e (inl w) =
     let f = e ∙ ap (λ t. t ++ behind) w in
     record {
@@ -111,18 +115,22 @@ cut_by word later own behind s e (inr w) =
       value = inr (refl, sym (ap tail f));
     }
 
-pub cut_first : (word : List ℕ) (later behind : List (List ℕ)) (s : Setting) → IsFirst (word ∷ later) s behind → HasOption word later s behind
+pub cut_first : (word : List ℕ) (later behind : List (List ℕ)) (s : Setting) → IsFirst (word ∷ later) s behind
+    → HasOption word later s behind
 cut_first word later behind s f = cut_by word later f.own behind s f.whole f.spelled
 
 pub none_first : (s : Setting) (behind : List (List ℕ)) → IsFirst [] s behind → ⊥
-none_first s behind f = elim f.spelled [ inl w ↦ absurd (let e = f.whole ∙ ap (λ t. t ++ behind) w in cc) | inr w ↦ absurd (let e = f.whole ∙ ap (λ t. t ++ behind) w in cc) ]
+none_first s behind f =
+    elim f.spelled [ inl w ↦ absurd (let e = f.whole ∙ ap (λ t. t ++ behind) w in cc) | inr w ↦ absurd (let e = f.whole ∙ ap (λ t. t ++ behind) w in cc) ]
 
 -- one value, and the words behind it
-pub one_value : (rest v w : List ℕ) (later behind other : List (List ℕ)) → IsValue rest later v behind → IsValue rest later w other → (v ≡ w) × (behind ≡ other)
+pub one_value : (rest v w : List ℕ) (later behind other : List (List ℕ)) → IsValue rest later v behind
+    → IsValue rest later w other → (v ≡ w) × (behind ≡ other)
 one_value rest v w later behind other (inl a) (inl b) = let e = sym a.1 ∙ b.1 in (ap head e, ap tail e)
 one_value rest v w later behind other (inl a) (inr b) = absurd (let e = sym a.0 ∙ b.0 in cc)
 one_value rest v w later behind other (inr a) (inl b) = absurd (let e = sym a.0 ∙ b.0 in cc)
-one_value rest v w later behind other (inr a) (inr b) = (append_cancel_left (codes "=") v w (sym a.0 ∙ b.0), a.1 ∙ sym b.1)
+one_value rest v w later behind other (inr a) (inr b) =
+    (append_cancel_left (codes "=") v w (sym a.0 ∙ b.0), a.1 ∙ sym b.1)
 
 most_fits : (q : Quantity) → most_of q ≤ 100000
 most_fits quantity.D = omega arith
@@ -142,7 +150,8 @@ same_setting : (s t : Setting) → s.quantity ≡ t.quantity → s.number ≡ t.
 same_setting s t a b = ap (λ q. setting q s.number) a ∙ ap (λ n. setting t.quantity n) b
 
 -- words have one first setting
-pub one_first : (words behind other : List (List ℕ)) (s t : Setting) → IsFirst words s behind → IsFirst words t other → (s ≡ t) × (behind ≡ other)
+pub one_first : (words behind other : List (List ℕ)) (s t : Setting) → IsFirst words s behind
+    → IsFirst words t other → (s ≡ t) × (behind ≡ other)
 one_first [] behind other s t f g = absurd (none_first s behind f)
 one_first (word ∷ later) behind other s t f g =
     let a = cut_first word later behind s f in
@@ -158,14 +167,16 @@ pub record HasRest (words : List (List ℕ)) (s : Setting) (settings : List Sett
   pub first : IsFirst words s behind
   pub spelled : AreSpelled settings behind
 
-pub take_first : (words : List (List ℕ)) (s : Setting) (settings : List Setting) → AreSpelled (s ∷ settings) words → IsInRange s → HasRest words s settings
+pub take_first : (words : List (List ℕ)) (s : Setting) (settings : List Setting)
+    → AreSpelled (s ∷ settings) words → IsInRange s → HasRest words s settings
 take_first words s settings a r = record {
   behind = a.1;
   first = record { own = a.0; whole = a.2; spelled = a.3; in_range = r };
   spelled = a.4;
 }
 
-pub with_first : (words behind : List (List ℕ)) (s : Setting) (settings : List Setting) → IsFirst words s behind → AreSpelled settings behind → AreSpelled (s ∷ settings) words
+pub with_first : (words behind : List (List ℕ)) (s : Setting) (settings : List Setting)
+    → IsFirst words s behind → AreSpelled settings behind → AreSpelled (s ∷ settings) words
 with_first words behind s settings f a = (f.own, behind, f.whole, f.spelled, a)
 
 -- what is left of settings behind the first
@@ -175,7 +186,8 @@ pub record IsLeft (words behind : List (List ℕ)) (s : Setting) (settings : Lis
   pub spelled : AreSpelled others behind
   pub in_range : All IsInRange others
 
-pub left_of : (words behind : List (List ℕ)) (s : Setting) (settings : List Setting) → IsFirst words s behind → AreSpelled settings words → All IsInRange settings → IsLeft words behind s settings
+pub left_of : (words behind : List (List ℕ)) (s : Setting) (settings : List Setting) → IsFirst words s behind
+    → AreSpelled settings words → All IsInRange settings → IsLeft words behind s settings
 left_of words behind s [] f a r = absurd (none_first s behind (subst (λ w. IsFirst w s behind) a f))
 left_of words behind s (t ∷ ts) f a r =
     let h = take_first words t ts a (All-head IsInRange t ts r) in
@@ -188,9 +200,12 @@ left_of words behind s (t ∷ ts) f a r =
     }
 
 -- words without a first setting have none
-pub none_left : (words : List (List ℕ)) (settings : List Setting) → ((s : Setting) (behind : List (List ℕ)) → ¬ IsFirst words s behind) → AreSpelled settings words → All IsInRange settings → settings ≡ []
+pub none_left : (words : List (List ℕ)) (settings : List Setting)
+    → ((s : Setting) (behind : List (List ℕ)) → ¬ IsFirst words s behind) → AreSpelled settings words
+    → All IsInRange settings → settings ≡ []
 none_left words [] n a r = refl
-none_left words (t ∷ ts) n a r = let h = take_first words t ts a (All-head IsInRange t ts r) in absurd (n t h.behind h.first)
+none_left words (t ∷ ts) n a r =
+    let h = take_first words t ts a (All-head IsInRange t ts r) in absurd (n t h.behind h.first)
 
 first_apart : (s : Setting) (others : List Setting) → AreOnce (s ∷ others) → LeavesOut others s.quantity
 first_apart s others o i d within = o 0 (suc i) d (omega arith) (omega arith)
@@ -198,7 +213,8 @@ first_apart s others o i d within = o 0 (suc i) d (omega arith) (omega arith)
 others_once : (s : Setting) (others : List Setting) → AreOnce (s ∷ others) → AreOnce others
 others_once s others o i j d lt within = o (suc i) (suc j) d (omega arith) (omega arith)
 
-one_setting : (settings : List Setting) (q : Quantity) (m n : ℕ) → AreOnce settings → Contains settings (setting q m) → Contains settings (setting q n) → m ≡ n
+one_setting : (settings : List Setting) (q : Quantity) (m n : ℕ) → AreOnce settings
+    → Contains settings (setting q m) → Contains settings (setting q n) → m ≡ n
 one_setting [] q m n o a b = absurd (has_none (setting q m) a)
 one_setting (s ∷ others) q m n o a b =
     elim (has_cases s (setting q m) others a) [
@@ -213,10 +229,13 @@ one_setting (s ∷ others) q m n o a b =
     ]
 
 -- the number of a quantity, where it is set once
-pub one_number : (settings : List Setting) (q : Quantity) (m n : ℕ) → AreOnce settings → IsNumberOf settings q m → IsNumberOf settings q n → m ≡ n
+pub one_number : (settings : List Setting) (q : Quantity) (m n : ℕ) → AreOnce settings
+    → IsNumberOf settings q m → IsNumberOf settings q n → m ≡ n
 one_number settings q m n o (inl a) (inl b) = one_setting settings q m n o a b
-one_number settings q m n o (inl a) (inr b) = absurd (All-contains (λ s. q ≢ s.quantity) settings (setting q m) b.0 a refl)
-one_number settings q m n o (inr a) (inl b) = absurd (All-contains (λ s. q ≢ s.quantity) settings (setting q n) a.0 b refl)
+one_number settings q m n o (inl a) (inr b) =
+    absurd (All-contains (λ s. q ≢ s.quantity) settings (setting q m) b.0 a refl)
+one_number settings q m n o (inr a) (inl b) =
+    absurd (All-contains (λ s. q ≢ s.quantity) settings (setting q n) a.0 b refl)
 one_number settings q m n o (inr a) (inr b) = a.1 ∙ sym b.1
 
 -- a number that is set, or is the usual one, is in range
@@ -227,12 +246,14 @@ usual_some quantity.Tol = (omega arith, omega arith)
 usual_some quantity.W = (omega arith, omega arith)
 usual_some quantity.H = (omega arith, omega arith)
 
-pub number_in_range : (settings : List Setting) (q : Quantity) (n : ℕ) → All IsInRange settings → IsNumberOf settings q n → (1 ≤ n) × (n ≤ most_of q)
+pub number_in_range : (settings : List Setting) (q : Quantity) (n : ℕ) → All IsInRange settings
+    → IsNumberOf settings q n → (1 ≤ n) × (n ≤ most_of q)
 number_in_range settings q n r (inl c) = All-contains IsInRange settings (setting q n) r c
 number_in_range settings q n r (inr u) = subst (λ m. (1 ≤ m) × (m ≤ most_of q)) (sym u.1) (usual_some q)
 
 -- settings that are not made twice, and one before them
-pub once_more : (words behind : List (List ℕ)) (s : Setting) → IsFirst words s behind → (a : AreRight behind) → LeavesOut a.settings s.quantity → AreRight words
+pub once_more : (words behind : List (List ℕ)) (s : Setting) → IsFirst words s behind → (a : AreRight behind)
+    → LeavesOut a.settings s.quantity → AreRight words
 once_more words behind s f a l = record {
   settings = s ∷ a.settings;
   spelled = with_first words behind s a.settings f a.spelled;
@@ -248,7 +269,8 @@ pub record AreRightBehind (words behind : List (List ℕ)) (s : Setting) : Type 
   pub right : AreRight behind
   pub without : LeavesOut right.settings s.quantity
 
-pub right_behind : (words behind : List (List ℕ)) (s : Setting) → IsFirst words s behind → AreRight words → AreRightBehind words behind s
+pub right_behind : (words behind : List (List ℕ)) (s : Setting) → IsFirst words s behind → AreRight words
+    → AreRightBehind words behind s
 right_behind words behind s f a =
     let l = left_of words behind s a.settings f a.spelled a.in_range in
     let o : AreOnce (s ∷ l.others) = subst AreOnce l.are a.once in
@@ -258,16 +280,23 @@ right_behind words behind s f a =
     }
 
 -- what a word is, as the parts of it are read
-pub no_option : (word : List ℕ) (later : List (List ℕ)) → ((q : Quantity) (rest : List ℕ) → ¬ (word ≡ option_word q ++ rest)) → (s : Setting) (behind : List (List ℕ)) → ¬ IsFirst (word ∷ later) s behind
+pub no_option : (word : List ℕ) (later : List (List ℕ))
+    → ((q : Quantity) (rest : List ℕ) → ¬ (word ≡ option_word q ++ rest))
+    → (s : Setting) (behind : List (List ℕ)) → ¬ IsFirst (word ∷ later) s behind
 no_option word later n s behind f = let a = cut_first word later behind s f in n s.quantity a.rest a.names
 
-pub no_value : (word rest : List ℕ) (later : List (List ℕ)) (q : Quantity) → word ≡ option_word q ++ rest → ((value : List ℕ) (behind : List (List ℕ)) → ¬ IsValue rest later value behind) → (s : Setting) (behind : List (List ℕ)) → ¬ IsFirst (word ∷ later) s behind
+pub no_value : (word rest : List ℕ) (later : List (List ℕ)) (q : Quantity) → word ≡ option_word q ++ rest
+    → ((value : List ℕ) (behind : List (List ℕ)) → ¬ IsValue rest later value behind)
+    → (s : Setting) (behind : List (List ℕ)) → ¬ IsFirst (word ∷ later) s behind
 no_value word rest later q e n s behind f =
     let a = cut_first word later behind s f in
     let o = same_option s.quantity q a.rest rest (sym a.names ∙ e) in
     n (decimal s.number) behind (subst (λ r. IsValue r later (decimal s.number) behind) o.1 a.value)
 
-pub no_number : (word rest value : List ℕ) (later after : List (List ℕ)) (q : Quantity) → word ≡ option_word q ++ rest → IsValue rest later value after → ((n : ℕ) → IsInRange (setting q n) → decimal n ≢ value) → (s : Setting) (behind : List (List ℕ)) → ¬ IsFirst (word ∷ later) s behind
+pub no_number : (word rest value : List ℕ) (later after : List (List ℕ)) (q : Quantity)
+    → word ≡ option_word q ++ rest → IsValue rest later value after
+    → ((n : ℕ) → IsInRange (setting q n) → decimal n ≢ value) → (s : Setting) (behind : List (List ℕ))
+    → ¬ IsFirst (word ∷ later) s behind
 no_number word rest value later after q e v n s behind f =
     let a = cut_first word later behind s f in
     let o = same_option s.quantity q a.rest rest (sym a.names ∙ e) in
@@ -275,9 +304,11 @@ no_number word rest value later after q e v n s behind f =
     n s.number (subst (λ x. IsInRange (setting x s.number)) o.0 f.in_range) w.0
 
 -- a list of one element or more, cut behind the first
-pub cut_list : {A : Type 0} (f : A → List ℕ) (words : List A) (x : A) (word : List ℕ) → 1 ≤ length words → x ≡ get_or words 0 x → word ≡ f x → map f words ≡ word ∷ map f (take (length words - 1) (drop 1 words))
+pub cut_list : {A : Type 0} (f : A → List ℕ) (words : List A) (x : A) (word : List ℕ) → 1 ≤ length words
+    → x ≡ get_or words 0 x → word ≡ f x → map f words ≡ word ∷ map f (take (length words - 1) (drop 1 words))
 cut_list f [] x word l e w = absurd (omega arith)
-cut_list f (y ∷ ys) x word l e w = ap (λ t. t ∷ map f ys) (ap f (sym e) ∙ sym w) ∙ ap (λ t. word ∷ map f t) (sym (take_all (length (y ∷ ys) - 1) ys (omega arith)))
+cut_list f (y ∷ ys) x word l e w =
+    ap (λ t. t ∷ map f ys) (ap f (sym e) ∙ sym w) ∙ ap (λ t. word ∷ map f t) (sym (take_all (length (y ∷ ys) - 1) ys (omega arith)))
 
 -- settings up to some words, none of which sets the quantity
 pub record HasPassed (settings : List Setting) (q : Quantity) (rest : List (List ℕ)) : Type 0 where
@@ -287,11 +318,13 @@ pub record HasPassed (settings : List Setting) (q : Quantity) (rest : List (List
   pub within : (s : Setting) → Contains left s → Contains settings s
   pub without : LeavesOut left q → LeavesOut settings q
 
-pub none_passed : (settings : List Setting) (q : Quantity) (words : List (List ℕ)) → AreSpelled settings words → All IsInRange settings → HasPassed settings q words
+pub none_passed : (settings : List Setting) (q : Quantity) (words : List (List ℕ)) → AreSpelled settings words
+    → All IsInRange settings → HasPassed settings q words
 none_passed settings q words a r = record { left = settings; spelled = a; in_range = r; within = λ s c. c; without = λ l. l }
 
 -- one setting further
-pub pass : (settings : List Setting) (q : Quantity) (words behind : List (List ℕ)) (s : Setting) → IsFirst words s behind → q ≢ s.quantity → HasPassed settings q words → HasPassed settings q behind
+pub pass : (settings : List Setting) (q : Quantity) (words behind : List (List ℕ)) (s : Setting)
+    → IsFirst words s behind → q ≢ s.quantity → HasPassed settings q words → HasPassed settings q behind
 pass settings q words behind s f n h =
     let l = left_of words behind s h.left f h.spelled h.in_range in
     record {
@@ -303,32 +336,45 @@ pass settings q words behind s f n h =
     }
 
 -- the number that is found
-pub found : (settings : List Setting) (q : Quantity) (words behind : List (List ℕ)) (s : Setting) → IsFirst words s behind → s.quantity ≡ q → HasPassed settings q words → IsSetTo settings q (Some s.number)
+pub found : (settings : List Setting) (q : Quantity) (words behind : List (List ℕ)) (s : Setting)
+    → IsFirst words s behind → s.quantity ≡ q → HasPassed settings q words
+    → IsSetTo settings q (Some s.number)
 found settings q words behind s f e h =
     let l = left_of words behind s h.left f h.spelled h.in_range in
     subst (λ x. Contains settings (setting x s.number)) e (h.within s (subst (λ x. Contains x s) (sym l.are) (head_has s s l.others refl)))
 
-pub not_found : (settings : List Setting) (q : Quantity) (words : List (List ℕ)) → ((s : Setting) (behind : List (List ℕ)) → ¬ IsFirst words s behind) → HasPassed settings q words → IsSetTo settings q None
-not_found settings q words n h = h.without (subst (λ x. LeavesOut x q) (sym (none_left words h.left n h.spelled h.in_range)) (All-nil (λ t. q ≢ t.quantity)))
+pub not_found : (settings : List Setting) (q : Quantity) (words : List (List ℕ))
+    → ((s : Setting) (behind : List (List ℕ)) → ¬ IsFirst words s behind) → HasPassed settings q words
+    → IsSetTo settings q None
+not_found settings q words n h =
+    h.without (subst (λ x. LeavesOut x q) (sym (none_left words h.left n h.spelled h.in_range)) (All-nil (λ t. q ≢ t.quantity)))
 
-pub begins_so : (word rest value : List ℕ) (later behind : List (List ℕ)) (q : Quantity) (n : ℕ) → word ≡ option_word q ++ rest → IsValue rest later value behind → decimal n ≡ value → IsInRange (setting q n) → IsFirst (word ∷ later) (setting q n) behind
-begins_so word rest value later behind q n e v d r = begins word rest later behind (setting q n) e (subst (λ t. IsValue rest later t behind) (sym d) v) r
+pub begins_so : (word rest value : List ℕ) (later behind : List (List ℕ)) (q : Quantity) (n : ℕ)
+    → word ≡ option_word q ++ rest → IsValue rest later value behind → decimal n ≡ value
+    → IsInRange (setting q n) → IsFirst (word ∷ later) (setting q n) behind
+begins_so word rest value later behind q n e v d r =
+    begins word rest later behind (setting q n) e (subst (λ t. IsValue rest later t behind) (sym d) v) r
 
 pub no_element : {A : Type 0} (f : A → List ℕ) (xs : List A) → map f xs ≡ [] → length xs ≡ 0
 no_element f [] e = refl
 no_element f (x ∷ xs) e = absurd cc
 
 -- words that begin with no setting are settings only where there are none
-pub right_none : (words : List (List ℕ)) → ((s : Setting) (behind : List (List ℕ)) → ¬ IsFirst words s behind) → AreRight words → words ≡ []
-right_none words n a = subst (λ x. AreSpelled x words) (none_left words a.settings n a.spelled a.in_range) a.spelled
+pub right_none : (words : List (List ℕ)) → ((s : Setting) (behind : List (List ℕ)) → ¬ IsFirst words s behind)
+    → AreRight words → words ≡ []
+right_none words n a =
+    subst (λ x. AreSpelled x words) (none_left words a.settings n a.spelled a.in_range) a.spelled
 
 -- what settings that leave it out give to a quantity
-pub left_out : (settings : List Setting) (q : Quantity) (r : Option ℕ) → LeavesOut settings q → IsSetTo settings q r → r ≡ None
+pub left_out : (settings : List Setting) (q : Quantity) (r : Option ℕ) → LeavesOut settings q
+    → IsSetTo settings q r → r ≡ None
 left_out settings q None l s = refl
 left_out settings q (Some n) l s = absurd (All-contains (λ t. q ≢ t.quantity) settings (setting q n) l s refl)
 
 -- the numbers of a lattice
-pub is_lattice : (settings : List Setting) (d k tol : ℕ) → All IsInRange settings → IsNumberOf settings quantity.D d → IsNumberOf settings quantity.K k → IsNumberOf settings quantity.Tol tol → d ≤ k → IsLattice (record { d = d; k = k; tol = tol })
+pub is_lattice : (settings : List Setting) (d k tol : ℕ) → All IsInRange settings
+    → IsNumberOf settings quantity.D d → IsNumberOf settings quantity.K k
+    → IsNumberOf settings quantity.Tol tol → d ≤ k → IsLattice (record { d = d; k = k; tol = tol })
 is_lattice settings d k tol r x y z l =
     let a = number_in_range settings quantity.D d r x in
     let b = number_in_range settings quantity.K k r y in

@@ -32,7 +32,8 @@ gave_nothing : (was : Option (List ℕ)) → Gave was was []
 gave_nothing None = tt
 gave_nothing (Some x) = refl
 
-pub nothing_read : (was : Option (List ℕ)) (line : List ℕ) (w : Works) (clean : Type 0) → line ≡ [] → IsRead was was line 0 w clean w
+pub nothing_read : (was : Option (List ℕ)) (line : List ℕ) (w : Works) (clean : Type 0) → line ≡ []
+    → IsRead was was line 0 w clean w
 nothing_read was line w clean e = record {
   bytes = [];
   units = [];
@@ -43,7 +44,8 @@ nothing_read was line w clean e = record {
 }
 
 -- units of more bytes, behind whole units and one that was begun
-units_behind : (bytes line piece kept : List ℕ) (us vs : List (List ℕ)) → StandsFirst bytes us line → StandsFirst (line ++ piece) vs kept → StandsFirst (bytes ++ piece) (us ++ vs) kept
+units_behind : (bytes line piece kept : List ℕ) (us vs : List (List ℕ)) → StandsFirst bytes us line
+    → StandsFirst (line ++ piece) vs kept → StandsFirst (bytes ++ piece) (us ++ vs) kept
 units_behind bytes line piece kept us vs l m = record {
   all = ap (λ t. t ++ piece) l.all ∙ append_assoc (concat us) line piece ∙ ap (λ t. concat us ++ t) m.all
       ∙ sym (append_assoc (concat us) (concat vs) kept) ∙ ap (λ t. t ++ kept) (sym (concat_more us vs));
@@ -51,7 +53,8 @@ units_behind bytes line piece kept us vs l m = record {
 }
 
 -- a piece was taken and its units were answered
-pub more_read : (was mid left : Option (List ℕ)) (line piece kept : List ℕ) (taken after : ℕ) (old now new : Works) (C D : Type 0) → (D → C)
+pub more_read : (was mid left : Option (List ℕ)) (line piece kept : List ℕ) (taken after : ℕ) (old now new : Works) (C D : Type 0)
+    → (D → C)
     → (r : IsRead was mid line taken old C now) → Gave was left (r.bytes ++ piece) → after ≡ taken + length piece → AnswersUnits (line ++ piece) kept now D new (Ok tt)
     → IsRead was left kept after old D new
 more_read was mid left line piece kept taken after old now new C D f r g e a = record {
@@ -63,7 +66,9 @@ more_read was mid left line piece kept taken after old now new C D f r g e a = r
   answered = answered_more old now new C D f r.units a.0 r.answered a.2;
 }
 
-some_behind : (bytes line piece : List ℕ) (us : List (List ℕ)) (P Q : List (List ℕ) → Type 0) → StandsFirst bytes us line → ((vs : List (List ℕ)) → P vs → Q (us ++ vs)) → DoesSome (line ++ piece) P → DoesSome (bytes ++ piece) Q
+some_behind : (bytes line piece : List ℕ) (us : List (List ℕ)) (P Q : List (List ℕ) → Type 0)
+    → StandsFirst bytes us line → ((vs : List (List ℕ)) → P vs → Q (us ++ vs)) → DoesSome (line ++ piece) P
+    → DoesSome (bytes ++ piece) Q
 some_behind bytes line piece us P Q l f d = record {
   units = us ++ d.units;
   rest = d.rest;
@@ -72,7 +77,8 @@ some_behind bytes line piece us P Q l f d = record {
 }
 
 -- a piece was taken, and the script ended at one of its units
-pub ended_at : (was mid left : Option (List ℕ)) (line piece kept : List ℕ) (taken : ℕ) (old now new : Works) (C D : Type 0) (e : Early) → (D → C)
+pub ended_at : (was mid left : Option (List ℕ)) (line piece kept : List ℕ) (taken : ℕ) (old now new : Works) (C D : Type 0) (e : Early)
+    → (D → C)
     → (r : IsRead was mid line taken old C now) → Gave was left (r.bytes ++ piece) → taken + length piece ≤ 2 ^ 28 → AnswersUnits (line ++ piece) kept now D new (Err e)
     → ScriptRuns was left old D new (status_of e)
 ended_at was mid left line piece kept taken old now new C D early.WriteFault f r g l a =
@@ -83,7 +89,8 @@ ended_at was mid left line piece kept taken old now new C D early.NoMemory f r g
     (r.bytes ++ piece, g, (short, some_behind r.bytes line piece r.units (AreAnswered now D new) (AreAnswered old D new) r.all.first (λ vs c. answered_more old now new C D f r.units vs r.answered c) a))
 
 -- the source has ended, and the last unit was answered
-ended_whole : (was left : Option (List ℕ)) (line : List ℕ) (taken : ℕ) (old now new : Works) (C D : Type 0) (s : Status) → (D → C) → taken < 2 ^ 28 → IsSpent left
+ended_whole : (was left : Option (List ℕ)) (line : List ℕ) (taken : ℕ) (old now new : Works) (C D : Type 0) (s : Status)
+    → (D → C) → taken < 2 ^ 28 → IsSpent left
     → IsRead was left line taken old C now → AnswersLast line now D new s → ScriptRuns was left old D new s
 ended_whole was left line taken old now new C D status.Ok f l z r a = (
   r.bytes,
@@ -132,12 +139,15 @@ ended_whole was left line taken old now new C D status.ReadFault f l z r a = abs
 ended_whole was left line taken old now new C D status.TooLong f l z r a = absurd a
 ended_whole was left line taken old now new C D status.Refused f l z r a = absurd a
 
-pub ended : (was left : Option (List ℕ)) (line rest : List ℕ) (taken : ℕ) (old now new : Works) (C D : Type 0) (s : Status) → (D → C) → taken < 2 ^ 28 → IsSpent left
+pub ended : (was left : Option (List ℕ)) (line rest : List ℕ) (taken : ℕ) (old now new : Works) (C D : Type 0) (s : Status)
+    → (D → C) → taken < 2 ^ 28 → IsSpent left
     → IsRead was left line taken old C now → rest ≡ line → AnswersLast rest now D new s → ScriptRuns was left old D new s
-ended was left line rest taken old now new C D s f l z r e a = ended_whole was left line taken old now new C D s f l z r (subst (λ t. AnswersLast t now D new s) e a)
+ended was left line rest taken old now new C D s f l z r e a =
+    ended_whole was left line taken old now new C D s f l z r (subst (λ t. AnswersLast t now D new s) e a)
 
 -- nothing was done at all
-pub nothing_done : (was : Option (List ℕ)) (w : Works) (clean : Type 0) → ScriptRuns was was w clean w status.NoMemory
+pub nothing_done : (was : Option (List ℕ)) (w : Works) (clean : Type 0)
+    → ScriptRuns was was w clean w status.NoMemory
 nothing_done was w clean = (
   [],
   gave_nothing was,
@@ -153,21 +163,26 @@ nothing_done was w clean = (
 )
 
 -- a take that saw the end
-pub end_gave : (E : Type 0) (was mid left : Option (List ℕ)) (bytes a b : List ℕ) (n : ℕ) → n ≡ 0 → Takes {E = E} mid left a b (Ok n) → Gave was mid bytes → Gave was left bytes
+pub end_gave : (E : Type 0) (was mid left : Option (List ℕ)) (bytes a b : List ℕ) (n : ℕ) → n ≡ 0
+    → Takes {E = E} mid left a b (Ok n) → Gave was mid bytes → Gave was left bytes
 end_gave E None None None bytes a b n z t g = tt
 end_gave E None None (Some y) bytes a b n z t g = absurd t
 end_gave E None (Some x) left bytes a b n z t g = absurd g
 end_gave E (Some w) None left bytes a b n z t g = absurd g
 end_gave E (Some w) (Some x) None bytes a b n z t g = absurd t
-end_gave E (Some w) (Some x) (Some y) bytes a b n z t g = g ∙ ap (λ r. bytes ++ r) (t.front ∙ ap (λ k. take k b ++ y) z)
+end_gave E (Some w) (Some x) (Some y) bytes a b n z t g =
+    g ∙ ap (λ r. bytes ++ r) (t.front ∙ ap (λ k. take k b ++ y) z)
 
-pub end_spent : (E : Type 0) (mid left : Option (List ℕ)) (a b : List ℕ) (n : ℕ) → n ≡ 0 → 0 < length a → Takes {E = E} mid left a b (Ok n) → IsSpent left
+pub end_spent : (E : Type 0) (mid left : Option (List ℕ)) (a b : List ℕ) (n : ℕ) → n ≡ 0 → 0 < length a
+    → Takes {E = E} mid left a b (Ok n) → IsSpent left
 end_spent E None None a b n z l t = tt
 end_spent E None (Some y) a b n z l t = absurd t
 end_spent E (Some x) None a b n z l t = absurd t
 end_spent E (Some x) (Some y) a b n z l t = sym (t.front ∙ ap (λ k. take k b ++ y) z) ∙ t.ends l z
 
-pub read_on : (was mid left : Option (List ℕ)) (line : List ℕ) (taken : ℕ) (old now : Works) (clean : Type 0) → (r : IsRead was mid line taken old clean now) → Gave was left r.bytes → IsRead was left line taken old clean now
+pub read_on : (was mid left : Option (List ℕ)) (line : List ℕ) (taken : ℕ) (old now : Works) (clean : Type 0)
+    → (r : IsRead was mid line taken old clean now) → Gave was left r.bytes
+    → IsRead was left line taken old clean now
 read_on was mid left line taken old now clean r g = record {
   bytes = r.bytes;
   units = r.units;
@@ -178,8 +193,11 @@ read_on was mid left line taken old now clean r g = record {
 }
 
 -- what a take gave, as the front of the whole block
-pub piece_gave : (E : Type 0) (was mid left : Option (List ℕ)) (bytes a b rest : List ℕ) (n : ℕ) → n ≤ length b → Gave was mid bytes → Takes {E = E} mid left a b (Ok n) → Gave was left (bytes ++ take n (b ++ rest))
-piece_gave E was mid left bytes a b rest n l g t = subst (λ p. Gave was left (bytes ++ p)) (sym (take-append-le n b rest l)) (gave_more E was mid left bytes a b n g t)
+pub piece_gave : (E : Type 0) (was mid left : Option (List ℕ)) (bytes a b rest : List ℕ) (n : ℕ)
+    → n ≤ length b → Gave was mid bytes → Takes {E = E} mid left a b (Ok n)
+    → Gave was left (bytes ++ take n (b ++ rest))
+piece_gave E was mid left bytes a b rest n l g t =
+    subst (λ p. Gave was left (bytes ++ p)) (sym (take-append-le n b rest l)) (gave_more E was mid left bytes a b n g t)
 
 pub piece_length : (b rest : List ℕ) (n : ℕ) → n ≤ length b → length (take n (b ++ rest)) ≡ n
 piece_length b rest n l = ap length (take-append-le n b rest l) ∙ length-take-le n b l

@@ -13,7 +13,8 @@ use Rattle.oriedit.specs.Units.{IsUnit, HasNoUnit}
 use Rattle.oriedit.specs.Unfinished.{Lacks, IsUnfinished, EndsLine}
 use Rattle.oriedit.proofs.Joining.{concat_more}
 
-pub none_behind : (line front : List ℕ) → ¬ Contains line 10 → ¬ Contains front 10 → ¬ Contains (line ++ front) 10
+pub none_behind : (line front : List ℕ) → ¬ Contains line 10 → ¬ Contains front 10
+    → ¬ Contains (line ++ front) 10
 none_behind line front n m = λ c. elim (Contains-append_cases line front 10 c) [ inl h ↦ n h | inr h ↦ m h ]
 
 -- a line that was begun before
@@ -56,13 +57,15 @@ lacks_of bytes n e = record {
 }
 
 -- the unit is whole where no line is lacking
-pub ends_line : (bytes : List ℕ) (n : ℕ) (b : Bool) → Ended bytes n → (b ≡ true → n ≡ 0) → (b ≡ false → ¬ (n ≡ 0)) → EndsLine bytes n b
+pub ends_line : (bytes : List ℕ) (n : ℕ) (b : Bool) → Ended bytes n → (b ≡ true → n ≡ 0)
+    → (b ≡ false → ¬ (n ≡ 0)) → EndsLine bytes n b
 ends_line bytes n true e t f = let z = t refl in (unit_of bytes (subst (Ended bytes) z e), z)
 ends_line bytes zero false e t f = absurd (f refl refl)
 ends_line bytes (suc n) false e t f = lacks_of bytes (suc n) e
 
 -- the first line is ended
-pub first_ended : (old new end first : List ℕ) (m n : ℕ) → m ≡ 0 → IsUnfinished old m → IsLine end → new ≡ old ++ end → first ≡ take (length new - 1) new → IsWanted first n → Ended new n
+pub first_ended : (old new end first : List ℕ) (m n : ℕ) → m ≡ 0 → IsUnfinished old m → IsLine end
+    → new ≡ old ++ end → first ≡ take (length new - 1) new → IsWanted first n → Ended new n
 first_ended old new end first m n z u l e t w =
     let n10 : ¬ Contains old 10 = subst (IsUnfinished old) z u in
     let line = ended_line old end n10 l in
@@ -94,14 +97,17 @@ further old new end n u l e = record {
   wants = (let k : length u.more + suc n ≡ length (u.more ++ (u.begun ++ end) ∷ []) + n = simp length-append (omega arith) in subst (IsWanted u.first) k u.wants);
 }
 
-pub further_ended : (old new end : List ℕ) (m n : ℕ) → n + 1 ≡ m → IsUnfinished old m → IsLine end → new ≡ old ++ end → Ended new n
+pub further_ended : (old new end : List ℕ) (m n : ℕ) → n + 1 ≡ m → IsUnfinished old m → IsLine end
+    → new ≡ old ++ end → Ended new n
 further_ended old new end zero n z u l e = absurd (omega (arith, z))
 further_ended old new end (suc m) n z u l e =
     let same : n ≡ m = omega (arith, z) in
     subst (Ended new) (sym same) (further old new end m u l e)
 
-pub ended : (old new end : List ℕ) (m n : ℕ) → (m ≡ 0 → IsWanted (take (length new - 1) new) n) → (¬ (m ≡ 0) → n + 1 ≡ m) → IsUnfinished old m → IsLine end → new ≡ old ++ end → Ended new n
-ended old new end zero n f g u l e = first_ended old new end (take (length new - 1) new) 0 n refl u l e refl (f refl)
+pub ended : (old new end : List ℕ) (m n : ℕ) → (m ≡ 0 → IsWanted (take (length new - 1) new) n)
+    → (¬ (m ≡ 0) → n + 1 ≡ m) → IsUnfinished old m → IsLine end → new ≡ old ++ end → Ended new n
+ended old new end zero n f g u l e =
+    first_ended old new end (take (length new - 1) new) 0 n refl u l e refl (f refl)
 ended old new end (suc m) n f g u l e = further_ended old new end (suc m) n (g (λ z. omega (arith, z))) u l e
 
 is_none : (n : ℕ) → nat_eq n 0 ≡ true → n ≡ 0
@@ -110,8 +116,11 @@ is_none n e = grind (arith, nat_tests)
 is_some : (n : ℕ) → nat_eq n 0 ≡ false → ¬ (n ≡ 0)
 is_some n e z = grind (arith, nat_tests)
 
-pub line_ended : (old new end : List ℕ) (m n : ℕ) → (m ≡ 0 → IsWanted (take (length new - 1) new) n) → (¬ (m ≡ 0) → n + 1 ≡ m) → IsUnfinished old m → IsLine end → new ≡ old ++ end → EndsLine new n (nat_eq n 0)
-line_ended old new end m n f g u l e = ends_line new n (nat_eq n 0) (ended old new end m n f g u l e) (is_none n) (is_some n)
+pub line_ended : (old new end : List ℕ) (m n : ℕ) → (m ≡ 0 → IsWanted (take (length new - 1) new) n)
+    → (¬ (m ≡ 0) → n + 1 ≡ m) → IsUnfinished old m → IsLine end → new ≡ old ++ end
+    → EndsLine new n (nat_eq n 0)
+line_ended old new end m n f g u l e =
+    ends_line new n (nat_eq n 0) (ended old new end m n f g u l e) (is_none n) (is_some n)
 
 pub some_byte : (new old end : List ℕ) → IsLine end → new ≡ old ++ end → 0 < length new
 some_byte new old end l e =
@@ -132,13 +141,15 @@ lacks_more old rest n u r = record {
   unfinished = none_behind u.begun rest u.unfinished r;
 }
 
-pub kept_more : (old rest : List ℕ) (n : ℕ) → IsUnfinished old n → ¬ Contains rest 10 → IsUnfinished (old ++ rest) n
+pub kept_more : (old rest : List ℕ) (n : ℕ) → IsUnfinished old n → ¬ Contains rest 10
+    → IsUnfinished (old ++ rest) n
 kept_more old rest zero u r = none_behind old rest u r
 kept_more old rest (suc n) u r = lacks_more old rest (suc n) u r
 
 -- nothing was taken
 pub nothing_kept : (bytes : List ℕ) (n : ℕ) → bytes ≡ [] → n ≡ 0 → IsUnfinished bytes n
-nothing_kept bytes n e z = subst (IsUnfinished bytes) (sym z) (subst (λ t. ¬ Contains t 10) (sym e) (λ c. has_none 10 c))
+nothing_kept bytes n e z =
+    subst (IsUnfinished bytes) (sym z) (subst (λ t. ¬ Contains t 10) (sym e) (λ c. has_none 10 c))
 
 feed_behind : (xs zs : List ℕ) → Contains (xs ++ 10 ∷ zs) 10
 feed_behind xs zs = Contains-append_right xs (10 ∷ zs) 10 (head_has 10 10 zs refl)
@@ -147,11 +158,14 @@ feed_behind xs zs = Contains-append_right xs (10 ∷ zs) 10 (head_has 10 10 zs r
 cut_feed : (first back : List ℕ) → (first ++ 10 ∷ []) ++ back ≡ first ++ 10 ∷ back
 cut_feed first back = append_assoc first (10 ∷ []) back
 
-line_front : (l : List ℕ) (ls : List (List ℕ)) (back : List ℕ) → (h : IsLine l) → concat (l ∷ ls) ++ back ≡ h.line ++ 10 ∷ (concat ls ++ back)
-line_front l ls back h = append_assoc l (concat ls) back ∙ ap (λ t. t ++ (concat ls ++ back)) h.ends ∙ cut_feed h.line (concat ls ++ back)
+line_front : (l : List ℕ) (ls : List (List ℕ)) (back : List ℕ) → (h : IsLine l)
+    → concat (l ∷ ls) ++ back ≡ h.line ++ 10 ∷ (concat ls ++ back)
+line_front l ls back h =
+    append_assoc l (concat ls) back ∙ ap (λ t. t ++ (concat ls ++ back)) h.ends ∙ cut_feed h.line (concat ls ++ back)
 
 -- as many lines stand at the front as there are whole ones, and no more
-at_most : (ls ms : List (List ℕ)) (begun later : List ℕ) → All IsLine ls → All IsLine ms → ¬ Contains begun 10 → concat ls ++ begun ≡ concat ms ++ later → length ms ≤ length ls
+at_most : (ls ms : List (List ℕ)) (begun later : List ℕ) → All IsLine ls → All IsLine ms → ¬ Contains begun 10
+    → concat ls ++ begun ≡ concat ms ++ later → length ms ≤ length ls
 at_most ls [] begun later a b n e = omega arith
 at_most [] (m ∷ ms) begun later a b n e =
     let h = All-head IsLine m ms b in
@@ -163,8 +177,10 @@ at_most (l ∷ ls) (m ∷ ms) begun later a b n e =
     let r = at_most ls ms begun later (All-tail IsLine l ls a) (All-tail IsLine m ms b) n c.1 in
     omega arith
 
-unit_front : (unit later : List ℕ) → (u : IsUnit unit) → unit ++ later ≡ u.first ++ 10 ∷ (concat u.more ++ later)
-unit_front unit later u = ap (λ t. t ++ later) u.all ∙ append_assoc (u.first ++ 10 ∷ []) (concat u.more) later ∙ cut_feed u.first (concat u.more ++ later)
+unit_front : (unit later : List ℕ) → (u : IsUnit unit)
+    → unit ++ later ≡ u.first ++ 10 ∷ (concat u.more ++ later)
+unit_front unit later u =
+    ap (λ t. t ++ later) u.all ∙ append_assoc (u.first ++ 10 ∷ []) (concat u.more) later ∙ cut_feed u.first (concat u.more ++ later)
 
 -- as many lines as a first line wants are one number
 abbrev pub IsOneCount : Type 0
@@ -180,7 +196,8 @@ lacks_unit one bytes n l unit later e u =
 
 -- no whole unit stands at the front of bytes without a line feed
 pub no_feed : (bytes : List ℕ) → ¬ Contains bytes 10 → HasNoUnit bytes
-no_feed bytes n unit later e u = n (subst (λ t. Contains t 10) (sym (e ∙ unit_front unit later u)) (feed_behind u.first (concat u.more ++ later)))
+no_feed bytes n unit later e u =
+    n (subst (λ t. Contains t 10) (sym (e ∙ unit_front unit later u)) (feed_behind u.first (concat u.more ++ later)))
 
 -- nor of a unit that is not whole
 pub no_unit : IsOneCount → (bytes : List ℕ) (n : ℕ) → IsUnfinished bytes n → HasNoUnit bytes

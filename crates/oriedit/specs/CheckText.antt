@@ -34,15 +34,17 @@ faults_status (fault ∷ faults) = status.FaultsFound
 abbrev pub JudgedText : ExactPattern → Answer → Status → List ℕ → Type 0
 JudgedText pattern (Answer.CrossRange first second) s text =
     (s ≡ status.Refused) × (text ≡ refusal_text (cut.CrossRange first second))
-JudgedText pattern Answer.TooManyVertices s text = (s ≡ status.Refused) × (text ≡ refusal_text cut.TooManyVertices)
+JudgedText pattern Answer.TooManyVertices s text =
+    (s ≡ status.Refused) × (text ≡ refusal_text cut.TooManyVertices)
 JudgedText pattern (Answer.Cut vs es) s text =
-    (faults : List Fault) × AreFaults pattern faults × (s ≡ faults_status faults) × (text ≡ reply_text (reply.Faults 0 faults))
+    (faults : List Fault) × AreFaults pattern faults
+    × (s ≡ faults_status faults) × (text ≡ reply_text (reply.Faults 0 faults))
 
 -- what is due for a pattern
 abbrev pub FaultsText : ExactPattern → Status → List ℕ → Type 0
 FaultsText pattern s text = (answer : Answer) × CutOf pattern answer × JudgedText pattern answer s text
 
--- What is due where drawing lines on the empty sheet answers so. Where nothing is drawn, the sheet stays empty.
+-- What is due where drawing lines on the empty sheet answers so. Where nothing is drawn, it stays empty.
 abbrev pub DrawnText : ExactSheet → Result ExactPattern EditBad → Status → List ℕ → Type 0
 DrawnText sheet (Ok pattern) s text = FaultsText pattern s text
 DrawnText sheet (Err bad) s text =
@@ -52,7 +54,8 @@ DrawnText sheet (Err bad) s text =
 -- what is due for the lines that a CP text draws
 abbrev pub LinesText : ExactSheet → List ExactCrease → Status → List ℕ → Type 0
 LinesText sheet lines s text =
-    (drawn : Result ExactPattern EditBad) × EditOf (empty_on sheet) (edit.Lines lines) drawn × DrawnText sheet drawn s text
+    (drawn : Result ExactPattern EditBad) × EditOf (empty_on sheet) (edit.Lines lines) drawn
+    × DrawnText sheet drawn s text
 
 -- what is due for what the input is read as: its lines, or its first bad line
 abbrev pub CpAnswerText : ExactSheet → Result CpLines CpBad → Status → List ℕ → Type 0

@@ -28,7 +28,8 @@ answer_status (Answer.Cut vs es) = status.Ok
 
 -- what is due for a pattern
 abbrev pub PatternText : ExactPattern → Status → List ℕ → Type 0
-PatternText pattern s text = (answer : Answer) × CutOf pattern answer × (s ≡ answer_status answer) × (text ≡ answer_text answer)
+PatternText pattern s text =
+    (answer : Answer) × CutOf pattern answer × (s ≡ answer_status answer) × (text ≡ answer_text answer)
 
 -- what is due for the bytes of the input: the answer of cutting where they are the text of a pattern, and else their refusal
 abbrev pub CutText : List ℕ → Status → List ℕ → Type 0

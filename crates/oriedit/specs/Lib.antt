@@ -14,4 +14,7 @@ pub mod Turns
 pub mod Script
 pub mod Answering
 pub mod Lasting
+pub mod Summary
+pub mod Generating
+pub mod Counting
 pub mod Run

@@ -16,7 +16,8 @@ IsSpent None = Unit {0}
 IsSpent (Some left) = left ≡ []
 
 -- what a reading up to a limit did to the source
-abbrev pub ReadsAll : {A : Type 0} → (A → List ℕ) → ℕ → Option (List ℕ) → Option (List ℕ) → Result A ReadEnd → Type 0
+abbrev pub ReadsAll : {A : Type 0} → (A → List ℕ) → ℕ → Option (List ℕ) → Option (List ℕ) → Result A ReadEnd
+    → Type 0
 ReadsAll items limit old new (Ok v) = Gave old new (items v) × IsSpent new × (length (items v) < limit)
 ReadsAll items limit old new (Err Failed) = (got : List ℕ) × Gave old new got × (length got < limit)
 ReadsAll items limit old new (Err TooLong) = (got : List ℕ) × Gave old new got × (length got ≡ limit)

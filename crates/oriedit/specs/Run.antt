@@ -8,12 +8,14 @@ use Rattle.oriedit.specs.declared.asking.Ask.{Ask}
 use Rattle.oriedit.specs.declared.asking.Ask.TheVariants as ask
 use Rattle.oriedit.specs.CutText.{CutText}
 use Rattle.oriedit.specs.CheckText.{CheckText}
+use Rattle.oriedit.specs.Generating.{Generates}
 use Rattle.oriedit.specs.declared.status.Status.{Status}
 use Rattle.oriedit.specs.declared.status.Status.TheVariants as status
 
 -- the text was due with this status: it was written, or a front of it and the end is a write fault
 abbrev pub WritesDue : Option (List ℕ) → Option (List ℕ) → List ℕ → Status → Status → Type 0
-WritesDue held now text due came = ((came ≡ due) × Gained held now text) ⊎ ((came ≡ status.WriteFault) × GainedFront held now text)
+WritesDue held now text due came =
+    ((came ≡ due) × Gained held now text) ⊎ ((came ≡ status.WriteFault) × GainedFront held now text)
 
 -- Which text a command owes for the bytes of its input, and with which status.
 abbrev pub Dues : Type 1
@@ -27,7 +29,8 @@ abbrev pub Answers : Dues → List ℕ → Option (List ℕ) → Option (List �
 Answers Due bytes held now status.Ok = Wrote Due bytes held now status.Ok
 Answers Due bytes held now status.FaultsFound = Wrote Due bytes held now status.FaultsFound
 Answers Due bytes held now status.Refused = Wrote Due bytes held now status.Refused
-Answers Due bytes held now status.WriteFault = (due : Status) × (text : List ℕ) × Due bytes due text × GainedFront held now text
+Answers Due bytes held now status.WriteFault =
+    (due : Status) × (text : List ℕ) × Due bytes due text × GainedFront held now text
 Answers Due bytes held now status.NoMemory = now ≡ held
 Answers Due bytes held now status.Usage = ⊥
 Answers Due bytes held now status.ReadFault = ⊥
@@ -40,9 +43,11 @@ IsWhole bytes left = IsSpent left × (length bytes < 2 ^ 24)
 -- how a run of a command that answers its whole input ends after these bytes were taken
 abbrev pub Ends : Dues → List ℕ → Option (List ℕ) → Option (List ℕ) → Option (List ℕ) → Status → Type 0
 Ends Due bytes left held now status.Ok = IsWhole bytes left × Answers Due bytes held now status.Ok
-Ends Due bytes left held now status.FaultsFound = IsWhole bytes left × Answers Due bytes held now status.FaultsFound
+Ends Due bytes left held now status.FaultsFound =
+    IsWhole bytes left × Answers Due bytes held now status.FaultsFound
 Ends Due bytes left held now status.Refused = IsWhole bytes left × Answers Due bytes held now status.Refused
-Ends Due bytes left held now status.WriteFault = IsWhole bytes left × Answers Due bytes held now status.WriteFault
+Ends Due bytes left held now status.WriteFault =
+    IsWhole bytes left × Answers Due bytes held now status.WriteFault
 Ends Due bytes left held now status.NoMemory = (length bytes ≤ 2 ^ 24) × (now ≡ held)
 Ends Due bytes left held now status.ReadFault = (length bytes < 2 ^ 24) × (now ≡ held)
 Ends Due bytes left held now status.TooLong = (length bytes ≡ 2 ^ 24) × (now ≡ held)
@@ -53,9 +58,10 @@ pub record Keeps (old new : Works) : Type 0 where
   pub tables : new.tables ≡ old.tables
   pub faults : new.faults ≡ old.faults
 
--- A run of a command that answers its whole input. A source that tells had the taken bytes at its front and has what
--- stood behind them.
-abbrev pub InputRuns : Dues → Option (List ℕ) → Option (List ℕ) → Option (List ℕ) → Option (List ℕ) → Status → Type 0
+-- A run of a command that answers its whole input. A source that tells had the taken bytes at its front and has
+-- what stood behind them.
+abbrev pub InputRuns : Dues → Option (List ℕ) → Option (List ℕ) → Option (List ℕ) → Option (List ℕ) → Status
+    → Type 0
 InputRuns Due was left held now s = (bytes : List ℕ) × Gave was left bytes × Ends Due bytes left held now s
 
 -- A run with words that are not in the grammar. Nothing is taken.
@@ -69,6 +75,7 @@ Means ask.Cut was left old clean new s = InputRuns CutText was left old.held new
 Means (ask.Check lattice sheet) was left old clean new s =
     InputRuns (CheckText lattice sheet) was left old.held new.held s × Keeps old new
 Means ask.Script was left old clean new s = ScriptRuns was left old clean new s
+Means (ask.Generate seed count) was left old clean new s = (left ≡ was) × Generates seed count old clean new s
 
 -- a run of the program: what its words ask for
 abbrev pub Runs : List (List ℕ) → Option (List ℕ) → Option (List ℕ) → Works → Type 0 → Works → Status → Type 0

@@ -97,4 +97,5 @@ ScriptEnds bytes left old clean new status.Refused = ⊥
 
 -- A run of a script. A source that tells had the taken bytes at its front and has what stood behind them.
 abbrev pub ScriptRuns : Option (List ℕ) → Option (List ℕ) → Works → Type 0 → Works → Status → Type 0
-ScriptRuns was left old clean new s = (bytes : List ℕ) × Gave was left bytes × ScriptEnds bytes left old clean new s
+ScriptRuns was left old clean new s =
+    (bytes : List ℕ) × Gave was left bytes × ScriptEnds bytes left old clean new s

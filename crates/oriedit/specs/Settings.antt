@@ -50,7 +50,8 @@ IsSpelled s words =
 abbrev pub AreSpelled : List Setting → List (List ℕ) → Type 0
 AreSpelled [] words = words ≡ []
 AreSpelled (s ∷ settings) words =
-    (own : List (List ℕ)) × (rest : List (List ℕ)) × (words ≡ own ++ rest) × IsSpelled s own × AreSpelled settings rest
+    (own : List (List ℕ)) × (rest : List (List ℕ)) × (words ≡ own ++ rest)
+    × IsSpelled s own × AreSpelled settings rest
 
 -- no option is set twice
 abbrev pub AreOnce : List Setting → Type 0

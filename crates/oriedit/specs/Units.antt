@@ -1,4 +1,4 @@
--- The units of a script, one after another: a line, and behind a line of an import the lines that belong to it.
+-- The units of a script, one after another: a line, and behind that of an import the lines that belong to it.
 use Rattle.std.specs.Prelude.{◌≡◌, ℕ, List, [], ◌∷◌, ◌++◌, All, Contains, length}
 use Rattle.std.specs.List.{concat}
 use Rattle.lines.specs.Lines.{IsLine}
@@ -27,8 +27,8 @@ pub record AreUnits (bytes : List ℕ) (units : List (List ℕ)) (rest : List �
   pub first : StandsFirst bytes units rest
   pub unfinished : HasNoUnit rest
 
--- The last unit of bytes that have ended: what stands behind the whole ones. Its last line may lack the line feed, and
--- lines that its first one wants may be lacking.
+-- The last unit of bytes that have ended: what stands behind the whole ones. Its last line may lack the line
+-- feed, and lines that its first one wants may be lacking.
 abbrev pub last_unit : List ℕ → List (List ℕ)
 last_unit [] = []
 last_unit (b ∷ bytes) = (b ∷ bytes) ∷ []

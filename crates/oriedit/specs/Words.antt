@@ -1,5 +1,5 @@
 -- The words of the command line.
-use Rattle.std.specs.Prelude.{◌≡◌, ◌≢◌, ℕ, List, [], ◌∷◌, codes}
+use Rattle.std.specs.Prelude.{◌≡◌, ◌≢◌, ℕ, ◌<◌, ◌≤◌, ◌^◌, List, [], ◌∷◌, codes, decimal}
 use Rattle.sheet.specs.Sheet.{ExactSheet}
 use Rattle.lattice.specs.Lattice.{Measures}
 use Rattle.oriedit.specs.Settings.{AreSettings}
@@ -11,14 +11,22 @@ abbrev pub AsksCheck : List (List ℕ) → Measures → ExactSheet → Type 0
 AsksCheck words lattice sheet =
     (further : List (List ℕ)) × (words ≡ codes "check" ∷ further) × AreSettings further lattice sheet
 
--- What the words ask for: `cut` or `script` alone, or `check` with its settings, and for all others the usage text.
+-- the words of `generate`, with the seed and the number of turns
+abbrev pub AsksGenerate : List (List ℕ) → ℕ → ℕ → Type 0
+AsksGenerate words seed count =
+    (words ≡ codes "generate" ∷ decimal seed ∷ decimal count ∷ []) × (seed < 2 ^ 64) × (count ≤ 100000)
+
+-- What the words ask for: `cut` or `script` alone, `check` with its settings, or `generate` with its two numbers, and for
+-- all others the usage text.
 abbrev pub Asks : List (List ℕ) → Ask → Type 0
 Asks words ask.Cut = words ≡ codes "cut" ∷ []
 Asks words (ask.Check lattice sheet) = AsksCheck words lattice sheet
 Asks words ask.Script = words ≡ codes "script" ∷ []
+Asks words (ask.Generate seed count) = AsksGenerate words seed count
 Asks words ask.Usage =
     (words ≢ codes "cut" ∷ []) × (words ≢ codes "script" ∷ [])
     × ((lattice : Measures) (sheet : ExactSheet) → ¬ AsksCheck words lattice sheet)
+    × ((seed count : ℕ) → ¬ AsksGenerate words seed count)
 
 abbrev pub usage_text : List ℕ
 usage_text =

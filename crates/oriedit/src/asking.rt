@@ -3,6 +3,7 @@ ghost use Rattle.std.specs.Prelude.{◌≡◌, [], ◌∷◌, codes, map, string
 ghost use Rattle.oriedit.specs.Words.{Asks};
 
 use crate::settings::settings;
+use commands::read_number;
 use lattice::Lattice;
 use sheet::Sheet;
 
@@ -17,6 +18,8 @@ pub(crate) enum Ask {
     Check { lattice: Lattice, sheet: Sheet },
     /// The answers to a script.
     Script,
+    /// So many turns of the generator with this seed, at most 100,000.
+    Generate { seed: u64, count: u64 },
 }
 
 /// What these words ask for.
@@ -36,6 +39,9 @@ fn asked_by(word: &str, further: &[String]) -> Ask
     if word == "check" {
         return asked_check(further);
     }
+    if word == "generate" {
+        return asked_generate(further);
+    }
     if further.is_empty() {
         asked_alone(word)
     } else {
@@ -53,9 +59,32 @@ fn asked_check(further: &[String]) -> Ask
     }
 }
 
-/// What a word other than `check` asks for alone.
+/// What `generate` with further words asks for.
+fn asked_generate(further: &[String]) -> Ask
+    ensures { Asks (codes "generate" ∷ map string_bytes further.now) result }
+{
+    match further {
+        [seed, count] => asked_turns(seed.as_str(), count.as_str()),
+        _ => Ask::Usage,
+    }
+}
+
+/// What `generate` with two further words asks for.
+fn asked_turns(seed: &str, count: &str) -> Ask
+    ensures { Asks (codes "generate" ∷ seed.now ∷ count.now ∷ []) result }
+{
+    let seed = read_number(seed.as_bytes(), u64::MAX);
+    let count = read_number(count.as_bytes(), 100_000);
+    match (seed, count) {
+        (Some(seed), Some(count)) => Ask::Generate { seed, count },
+        _ => Ask::Usage,
+    }
+}
+
+/// What a word other than `check` and `generate` asks for alone.
 fn asked_alone(word: &str) -> Ask
-    requires { ¬ (word.now ≡ codes "check") }
+    requires check { ¬ (word.now ≡ codes "check") }
+    requires generate { ¬ (word.now ≡ codes "generate") }
     ensures { Asks (word.now ∷ []) result }
 {
     if word == "cut" {

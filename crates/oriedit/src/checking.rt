@@ -27,7 +27,8 @@ pub fn check<W: Sink>(
     sheet: &Sheet,
     sink: &mut W,
 ) -> Status
-    ensures bytes { Answers (CheckText lattice.now sheet.now) bytes.now (W.held sink.old) (W.held sink.new) result }
+    ensures bytes { Answers (CheckText lattice.now sheet.now) bytes.now
+        (W.held sink.old) (W.held sink.new) result }
     ensures fault { result ≡ Status.WriteFault → Rose (W.faults sink.old) (W.faults sink.new) }
     ensures later { W.faults sink.old ≤ W.faults sink.new }
     ensures aside { W.aside sink.new ≡ W.aside sink.old }

@@ -9,6 +9,9 @@ mod checking;
 mod cutting;
 mod due;
 mod early;
+#[cfg(test)]
+mod generate_tests;
+mod generating;
 mod laws;
 mod program;
 mod reading;
@@ -18,6 +21,8 @@ mod script_tests;
 mod scripting;
 mod settings;
 mod status;
+mod summary;
+mod tally;
 #[cfg(test)]
 mod tests;
 mod unfinished;

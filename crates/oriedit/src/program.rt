@@ -10,6 +10,7 @@ use crate::Status;
 use crate::asking::{Ask, asked};
 use crate::checking::check;
 use crate::cutting::{cut, usage};
+use crate::generating::generate;
 use crate::reading::{ReadEnd, read_all};
 use crate::scripting::script;
 use lattice::Lattice;
@@ -23,8 +24,9 @@ const LIMIT: usize = 16_777_216;
 
 /// Does all that the program does. The words are those after the program's name. `cut` alone reads
 /// a pattern's text and writes its subdivision; `check` with its settings reads a CP text and writes
-/// the faults of what it draws; `script` alone reads commands and writes their replies. Other words
-/// write the usage text.
+/// the faults of what it draws; `script` alone reads commands and writes their replies; `generate`
+/// with a seed and a number of turns reads nothing, does that many turns of the generator, and writes
+/// the summary. Other words write the usage text.
 pub fn run<S: Source, W: Sink, K: Keeper>(
     alloc: Global,
     words: &[String],
@@ -50,12 +52,14 @@ pub fn run<S: Source, W: Sink, K: Keeper>(
         Ask::Cut => cut_input(alloc, source, sink),
         Ask::Check { lattice, sheet } => check_input(alloc, source, sink, &lattice, &sheet),
         Ask::Script => script(alloc, source, sink, keeper),
+        Ask::Generate { seed, count } => generate(alloc, seed, count, sink, keeper),
     }
 }
 
 /// Does what `cut` does: reads a pattern's text and writes its subdivision.
 fn cut_input<S: Source, W: Sink>(alloc: Global, source: &mut S, sink: &mut W) -> Status
-    ensures cut { InputRuns CutText (S.left source.old) (S.left source.new) (W.held sink.old) (W.held sink.new) result }
+    ensures cut { InputRuns CutText (S.left source.old) (S.left source.new)
+        (W.held sink.old) (W.held sink.new) result }
     ensures read_fault { result ≡ Status.ReadFault → Rose (S.faults source.old) (S.faults source.new) }
     ensures write_fault { result ≡ Status.WriteFault → Rose (W.faults sink.old) (W.faults sink.new) }
     ensures source_faults { S.faults source.old ≤ S.faults source.new }
@@ -79,7 +83,8 @@ fn check_input<S: Source, W: Sink>(
     lattice: &Lattice,
     sheet: &Sheet,
 ) -> Status
-    ensures check { InputRuns (CheckText lattice.now sheet.now) (S.left source.old) (S.left source.new) (W.held sink.old) (W.held sink.new) result }
+    ensures check { InputRuns (CheckText lattice.now sheet.now) (S.left source.old) (S.left source.new)
+        (W.held sink.old) (W.held sink.new) result }
     ensures read_fault { result ≡ Status.ReadFault → Rose (S.faults source.old) (S.faults source.new) }
     ensures write_fault { result ≡ Status.WriteFault → Rose (W.faults sink.old) (W.faults sink.new) }
     ensures source_faults { S.faults source.old ≤ S.faults source.new }

@@ -1,11 +1,12 @@
 //! The settings of `check`: the words behind it on the command line.
-ghost use Rattle.std.specs.Prelude.{◌≡◌, ◌<◌, ◌≤◌, ◌↔◌, ◌++◌, ◌∷◌, All, List, ℕ, IfSome, IsNone, IsTrue, length, map, string_bytes, decimal};
-ghost use Rattle.commands.specs.Fields.{Spells};
-ghost use Rattle.commands.specs.Taking.{ReadsOption};
+ghost use Rattle.std.specs.Prelude.{◌≡◌, ◌<◌, ◌≤◌, ◌↔◌, ◌++◌, ◌∷◌, List, ℕ, IfSome, IsNone, IsTrue};
+ghost use Rattle.std.specs.Prelude.{length, map, string_bytes, decimal};
 ghost use Rattle.sheet.specs.Sheet.{ExactSheet};
 ghost use Rattle.lattice.specs.Lattice.{Measures};
-ghost use Rattle.oriedit.specs.Settings.{Setting, setting, option_word, most_of, usual_of, IsInRange, AreSpelled, IsNumberOf, AreSettings};
-ghost use Rattle.oriedit.specs.FirstSetting.{IsFirst, IsValue, AreRight, IsSetTo};
+ghost use Rattle.commands.specs.Fields.{Spells};
+ghost use Rattle.commands.specs.Taking.{ReadsOption};
+ghost use Rattle.oriedit.specs.Settings.{setting, option_word, most_of, usual_of, IsInRange, AreSettings};
+ghost use Rattle.oriedit.specs.FirstSetting.{IsFirst, IsValue, AreRight, HasNoFirst, SetTo, NumberBy};
 
 use commands::read_number;
 use lattice::Lattice;
@@ -37,7 +38,8 @@ struct Made<'a> {
 /// The lattice and the sheet that the words set, or None where they are not the settings of `check`.
 pub(crate) fn settings(words: &[String]) -> Option<(Lattice, Sheet)>
     ensures some { IfSome result (λ s. AreSettings (map string_bytes words.now) s.0 s.1) }
-    ensures none { IsNone result → (lattice : Measures) (sheet : ExactSheet) → ¬ AreSettings (map string_bytes words.now) lattice sheet }
+    ensures none { IsNone result → (lattice : Measures) (sheet : ExactSheet)
+        → ¬ AreSettings (map string_bytes words.now) lattice sheet }
 {
     if !are_settings(words) {
         return None;
@@ -69,7 +71,7 @@ fn are_settings(words: &[String]) -> bool
 
 /// The number of a quantity: the one that the words set it to, or the usual one.
 fn number_of(words: &[String], quantity: Quantity) -> u32
-    ensures { (settings : List Setting) → AreSpelled settings (map string_bytes words.now) → All IsInRange settings → IsNumberOf settings quantity result }
+    ensures { NumberBy (map string_bytes words.now) quantity result }
 {
     match number_set(words, quantity) {
         Some(number) => number,
@@ -79,7 +81,7 @@ fn number_of(words: &[String], quantity: Quantity) -> u32
 
 /// The number that settings give a quantity, if they do.
 fn number_set(words: &[String], quantity: Quantity) -> Option<u32>
-    ensures { (settings : List Setting) → AreSpelled settings (map string_bytes words.now) → All IsInRange settings → IsSetTo settings quantity result }
+    ensures { SetTo (map string_bytes words.now) quantity result }
 {
     let mut rest = words;
     while let Some(first) = first(rest) {
@@ -93,9 +95,10 @@ fn number_set(words: &[String], quantity: Quantity) -> Option<u32>
 
 /// The first setting.
 fn first(words: &[String]) -> Option<Made<'_>>
-    ensures some { IfSome result (λ f. IsFirst (map string_bytes words.now) (setting f.quantity f.number) (map string_bytes f.behind.now)) }
+    ensures some { IfSome result (λ f. IsFirst (map string_bytes words.now)
+        (setting f.quantity f.number) (map string_bytes f.behind.now)) }
     ensures shorter { IfSome result (λ f. length f.behind.now < length words.now) }
-    ensures none { IsNone result → (s : Setting) (behind : List (List ℕ)) → ¬ IsFirst (map string_bytes words.now) s behind }
+    ensures none { IsNone result → HasNoFirst (map string_bytes words.now) }
 {
     match words {
         [] => None,
@@ -105,9 +108,10 @@ fn first(words: &[String]) -> Option<Made<'_>>
 
 /// The setting that a word makes, or begins with the words behind it.
 fn first_by<'a>(word: &'a str, later: &'a [String]) -> Option<Made<'a>>
-    ensures some { IfSome result (λ f. IsFirst (word.entry.now ∷ map string_bytes later.entry.now) (setting f.quantity f.number) (map string_bytes f.behind.now)) }
+    ensures some { IfSome result (λ f. IsFirst (word.entry.now ∷ map string_bytes later.entry.now)
+        (setting f.quantity f.number) (map string_bytes f.behind.now)) }
     ensures shorter { IfSome result (λ f. length f.behind.now ≤ length later.entry.now) }
-    ensures none { IsNone result → (s : Setting) (behind : List (List ℕ)) → ¬ IsFirst (word.entry.now ∷ map string_bytes later.entry.now) s behind }
+    ensures none { IsNone result → HasNoFirst (word.entry.now ∷ map string_bytes later.entry.now) }
 {
     let (quantity, rest) = option_of(word)?;
     let (value, behind) = value(rest, later)?;
@@ -143,9 +147,11 @@ fn option_of(word: &str) -> Option<(Quantity, &str)>
 /// The value of an option, by the bytes behind its name and the words behind it, and the words
 /// behind the value.
 fn value<'a>(rest: &'a str, later: &'a [String]) -> Option<(&'a str, &'a [String])>
-    ensures some { IfSome result (λ v. IsValue rest.entry.now (map string_bytes later.entry.now) v.0.now (map string_bytes v.1.now)) }
+    ensures some { IfSome result (λ v. IsValue rest.entry.now (map string_bytes later.entry.now)
+        v.0.now (map string_bytes v.1.now)) }
     ensures shorter { IfSome result (λ v. length v.1.now ≤ length later.entry.now) }
-    ensures none { IsNone result → (value : List ℕ) (behind : List (List ℕ)) → ¬ IsValue rest.entry.now (map string_bytes later.entry.now) value behind }
+    ensures none { IsNone result → (value : List ℕ) (behind : List (List ℕ))
+        → ¬ IsValue rest.entry.now (map string_bytes later.entry.now) value behind }
 {
     if !rest.is_empty() {
         return Some((rest.strip_prefix("=")?, later));

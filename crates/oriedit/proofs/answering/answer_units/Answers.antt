@@ -43,7 +43,9 @@ loop-end-preserved-in_ok-answer_unit g c =
     }
 
 pub returns-clause-units : goal.returns-clause-units
-returns-clause-units g c = all_answered c.wanted_is_one.ensures _ _ c.loop-end.rest.now _ _ _ _ _ (c.in_default.ensures.none refl) c.in_ok-extend_from_slice.ensures.items c.loop-end.invariant.so_far
+returns-clause-units g c =
+    all_answered c.wanted_is_one.ensures _ _ c.loop-end.rest.now _ _ _ _ _ (c.in_default.ensures.none refl) c.in_ok-extend_from_slice.ensures.items c.loop-end.invariant.so_far
 
 pub returns-clause-unfinished : goal.returns-clause-unfinished
-returns-clause-unfinished g c = λ _. still_unfinished _ _ c.loop-end.rest.now _ _ _ _ _ (c.in_default.ensures.none refl) c.in_ok-extend_from_slice.ensures.items c.loop-end.invariant.so_far
+returns-clause-unfinished g c =
+    λ _. still_unfinished _ _ c.loop-end.rest.now _ _ _ _ _ (c.in_default.ensures.none refl) c.in_ok-extend_from_slice.ensures.items c.loop-end.invariant.so_far

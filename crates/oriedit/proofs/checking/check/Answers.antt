@@ -4,5 +4,6 @@ use Rattle.oriedit.proofs.Ending.{answered, check_due}
 use Rattle.oriedit.proofs.checking.check.Goals as goal
 
 pub returns-in-Ok-clause-bytes : goal.returns-in-Ok-clause-bytes
-returns-in-Ok-clause-bytes g c = answered (CheckText c.args.lattice.now c.args.sheet.now) c.args.bytes.now (text_of c.in-Ok.due.text) (g.W.Sink.held c.args.sink.now) (g.W.Sink.held c.written.new.sink) c.in-Ok.due.status c.written.result
+returns-in-Ok-clause-bytes g c =
+    answered (CheckText c.args.lattice.now c.args.sheet.now) c.args.bytes.now (text_of c.in-Ok.due.text) (g.W.Sink.held c.args.sink.now) (g.W.Sink.held c.written.new.sink) c.in-Ok.due.status c.written.result
     (check_due c.args.lattice.now c.args.sheet.now c.args.bytes.now (text_of c.in-Ok.due.text) c.in-Ok.due.status c.in-Ok.ensures) c.in-Ok.ensures c.written.ensures.bytes

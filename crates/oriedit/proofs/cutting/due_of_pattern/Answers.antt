@@ -8,7 +8,8 @@ use Rattle.oriedit.proofs.Ending.{refused}
 use Rattle.oriedit.proofs.cutting.due_of_pattern.Goals as goal
 
 pub returns-in-Ok : goal.returns-in-Ok
-returns-in-Ok c = (Answer.Cut c.in-Ok.subdivision.vertices c.in-Ok.subdivision.edges, c.in-Ok.ensures, refl, refl)
+returns-in-Ok c =
+    (Answer.Cut c.in-Ok.subdivision.vertices c.in-Ok.subdivision.edges, c.in-Ok.ensures, refl, refl)
 
 pub returns-in-Err-Why : goal.returns-in-Err-Why
 returns-in-Err-Why c =

@@ -6,7 +6,8 @@ use Rattle.oriedit.proofs.SettingLists.{no_element, right_none, left_out, once_m
 use Rattle.oriedit.proofs.settings.+are_settings.Goals as goal
 
 pub returns-in-None : goal.returns-in-None
-returns-in-None t c = (λ e. absurd cc, λ a. let n = no_element string_bytes c.args.words.now (right_none _ (c.in-None.ensures.none refl) a) in search (rules, n))
+returns-in-None t c =
+    (λ e. absurd cc, λ a. let n = no_element string_bytes c.args.words.now (right_none _ (c.in-None.ensures.none refl) a) in search (rules, n))
 
 pub returns-then-is_none : goal.returns-then-is_none
 returns-then-is_none t c =

@@ -6,7 +6,8 @@ pub returns-in_err-quantity-clause-none : goal.returns-in_err-quantity-clause-no
 returns-in_err-quantity-clause-none c = λ _. no_option c.args.word.now _ (c.in_err-quantity.ensures.none refl)
 
 pub returns-in_err-value-clause-none : goal.returns-in_err-value-clause-none
-returns-in_err-value-clause-none c = λ _. no_value c.args.word.now c.in_ok-quantity.rest.now _ c.in_ok-quantity.quantity c.in_ok-quantity.ensures.some (c.in_err-value.ensures.none refl)
+returns-in_err-value-clause-none c =
+    λ _. no_value c.args.word.now c.in_ok-quantity.rest.now _ c.in_ok-quantity.quantity c.in_ok-quantity.ensures.some (c.in_err-value.ensures.none refl)
 
 pub returns-clause-some : goal.returns-clause-some
 returns-clause-some c =

@@ -17,4 +17,5 @@ loop-first-preserved c = λ settings a r.
     pass settings c.args.quantity _ _ (setting c.in-Some.first.quantity c.in-Some.first.number) c.in-Some.ensures.some n (c.loop-first.invariant settings a r)
 
 pub returns : goal.returns
-returns c = λ settings a r. not_found settings c.args.quantity _ (c.in_default.ensures.none refl) (c.loop-first.invariant settings a r)
+returns c =
+    λ settings a r. not_found settings c.args.quantity _ (c.in_default.ensures.none refl) (c.loop-first.invariant settings a r)
