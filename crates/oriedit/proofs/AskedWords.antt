@@ -7,11 +7,11 @@ use Rattle.oriedit.specs.Settings.{AreSettings}
 use Rattle.oriedit.specs.Words.{Asks}
 use Rattle.oriedit.specs.declared.asking.Ask.TheVariants as ask
 
-abbrev head : List (List ℕ) → List ℕ
+abbrev pub head : List (List ℕ) → List ℕ
 head [] = []
 head (w ∷ ws) = w
 
-abbrev tail : List (List ℕ) → List (List ℕ)
+abbrev pub tail : List (List ℕ) → List (List ℕ)
 tail [] = []
 tail (w ∷ ws) = ws
 

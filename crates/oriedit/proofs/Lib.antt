@@ -12,3 +12,9 @@ pub mod AskedWords
 pub mod Pieces
 pub mod Stepping
 pub mod Rounds
+pub mod OneFaults
+pub mod Ascending
+pub mod CutOnce
+pub mod OneCheckText
+pub mod OneWords
+pub mod OneUnits

@@ -158,7 +158,7 @@ feed_behind xs zs = Contains-append_right xs (10 ∷ zs) 10 (head_has 10 10 zs r
 cut_feed : (first back : List ℕ) → (first ++ 10 ∷ []) ++ back ≡ first ++ 10 ∷ back
 cut_feed first back = append_assoc first (10 ∷ []) back
 
-line_front : (l : List ℕ) (ls : List (List ℕ)) (back : List ℕ) → (h : IsLine l)
+pub line_front : (l : List ℕ) (ls : List (List ℕ)) (back : List ℕ) → (h : IsLine l)
     → concat (l ∷ ls) ++ back ≡ h.line ++ 10 ∷ (concat ls ++ back)
 line_front l ls back h =
     append_assoc l (concat ls) back ∙ ap (λ t. t ++ (concat ls ++ back)) h.ends ∙ cut_feed h.line (concat ls ++ back)
@@ -177,7 +177,7 @@ at_most (l ∷ ls) (m ∷ ms) begun later a b n e =
     let r = at_most ls ms begun later (All-tail IsLine l ls a) (All-tail IsLine m ms b) n c.1 in
     omega arith
 
-unit_front : (unit later : List ℕ) → (u : IsUnit unit)
+pub unit_front : (unit later : List ℕ) → (u : IsUnit unit)
     → unit ++ later ≡ u.first ++ 10 ∷ (concat u.more ++ later)
 unit_front unit later u =
     ap (λ t. t ++ later) u.all ∙ append_assoc (u.first ++ 10 ∷ []) (concat u.more) later ∙ cut_feed u.first (concat u.more ++ later)

@@ -157,6 +157,39 @@ fn lines_that_are_refused(rt: HostRuntime) -> Result<(), Fail> {
     Ok(())
 }
 
+/// Settings of a sheet of width and height 8 by whose lattice the text can name each fiftieth: from
+/// -200 to 3000 they are 8 apart.
+const FIFTIETHS: [&str; 8] = ["--d", "50", "--k", "50", "--w", "8", "--h", "8"];
+
+#[test]
+fn a_grid_of_too_many_vertices_is_refused(rt: HostRuntime) -> Result<(), Fail> {
+    // With the four sides, 317 level lines and 317 upright ones meet in 100,489 points.
+    let alloc = rt.alloc();
+    let mut text = String::new(alloc);
+    for n in 1..316u32 {
+        let at = 8 * n;
+        write!(text, "2 {at} -200 {at} 3000\n3 -200 {at} 3000 {at}\n")?;
+    }
+    let refused = b"refused TooManyVertices\n";
+    assert!(rt; gives(alloc, &FIFTIETHS, text.as_bytes(), Status::Refused, refused)?);
+    Ok(())
+}
+
+#[test]
+fn too_many_creases_are_refused(rt: HostRuntime) -> Result<(), Fail> {
+    let alloc = rt.alloc();
+    let mut text = String::new(alloc);
+    for n in 0..20_001u32 {
+        let from = n % 300 * 8;
+        let to = from + 8;
+        let height = n / 300 * 8;
+        write!(text, "2 {from} {height} {to} {height}\n")?;
+    }
+    let refused = b"refused TooManyCreases 20001\n";
+    assert!(rt; gives(alloc, &FIFTIETHS, text.as_bytes(), Status::Refused, refused)?);
+    Ok(())
+}
+
 #[test]
 fn settings_that_are_wrong(rt: HostRuntime) -> Result<(), Fail> {
     let alloc = rt.alloc();

@@ -27,7 +27,7 @@ mod tally;
 mod tests;
 mod unfinished;
 
-pub use laws::cut_text_is_one;
+pub use laws::{check_text_is_one, cut_text_is_one, units_are_one, words_ask_one_thing};
 use ports::{NoMemory, StdSink, StdSource};
 pub use program::run;
 use projects::MemKeeper;
