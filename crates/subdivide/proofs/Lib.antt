@@ -2,6 +2,9 @@ pub mod PatternLines
 pub mod Cutting
 pub mod Range
 mod Extents
+mod Sided
+mod Ordered
+mod Reached
 mod Crossings
 mod Points
 mod SideRange

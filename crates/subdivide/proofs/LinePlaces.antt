@@ -1,17 +1,14 @@
 -- The places of the sides and the creases among the lines.
-use Rattle.std.proofs.Common.{◌≡◌, ℕ, ◌+◌, ◌-◌, ◌<◌, ◌≤◌, List, ◌++◌, map, length, get_or, refl, sym, ap, subst, ◌∙◌, inl, inr, arith, length-append}
-use Rattle.std.specs.Prelude.{Contains, slice_get, Some, slice_index_or}
+use Rattle.std.proofs.Common.{◌≡◌, ℕ, ◌+◌, ◌-◌, ◌<◌, ◌≤◌, List, ◌++◌, map, length, get_or, refl, sym, ap, ◌∙◌, arith, length-append}
+use Rattle.std.specs.Prelude.{Contains, slice_get, Some}
 use Rattle.std.proofs.lemmas.List.{get_or-map, length-map, get_or_default, get_or_append_left, get_or-append_right}
 use Rattle.std.proofs.lemmas.Option.{slice_get_within, get_or_from_slice_get, slice_get_read}
-use Rattle.exact.specs.Number.{Less}
-use Rattle.exact.specs.Plane.{Before, ExactSegment, SegmentBefore}
-use Rattle.geometry.proofs.PointOrder.{less_not_back, less_not_same}
+use Rattle.exact.specs.Plane.{ExactSegment}
 use Rattle.sheet.specs.Sheet.{ExactSheet, sides}
-use Rattle.sheet.specs.Pattern.{ExactCrease, ExactPattern, IsPattern}
+use Rattle.sheet.specs.Pattern.{ExactCrease, ExactPattern}
 use Rattle.subdivide.specs.Subdivision.{Line, lines, kind_of}
-use Rattle.subdivide.specs.Crossings.{BeginInOrder}
 use Rattle.subdivide.specs.declared.edge.EdgeKind.TheVariants as kind
-use Rattle.subdivide.proofs.Range.{Stands, earlier, some_crease}
+use Rattle.subdivide.proofs.Range.{Stands, some_crease}
 
 abbrev side_lines : ExactSheet → List Line
 side_lines sheet = map (λ (s : ExactSegment). (let l : Line = record { seg = s; kind = kind.B } in l)) (sides sheet)
@@ -52,20 +49,3 @@ line_of pattern i s h = (
 
     less : (i : ℕ) → 4 + i - 4 ≡ i
     less i = omega arith
-
-not_left : (s t : ExactSegment) → SegmentBefore s t → ¬ Less t.p.x s.p.x
-not_left s t h l = elim h [
-  | inl b ↦ by b
-  | inr k ↦ less_not_same t.p.x s.p.x l (record { a = sym k.0.x.a; b = sym k.0.x.b })
-]
-  where
-    by : Before s.p t.p → ⊥
-    by b = elim b [ inl x ↦ less_not_back s.p.x t.p.x x l | inr y ↦ less_not_same t.p.x s.p.x l (record { a = sym y.0.a; b = sym y.0.b }) ]
-
--- the creases among the lines begin from left to right
-pub begin_in_order : (pattern : ExactPattern) → IsPattern pattern → (ls : List Line) → ls ≡ lines pattern → BeginInOrder ls
-begin_in_order pattern p ls e i j d f h l = (let a = stands i (omega (arith, h, l)) f in let b = stands j l (omega (arith, f, h)) in
-    not_left (slice_index_or ls i d).seg (slice_index_or ls j d).seg (earlier pattern p (slice_index_or ls i d).seg (slice_index_or ls j d).seg (i - 4) (j - 4) a b (omega (arith, f, h))))
-  where
-    stands : (k : ℕ) → k < length ls → 4 ≤ k → Stands pattern (k - 4) (slice_index_or ls k d).seg
-    stands k w q = crease_place pattern k (slice_index_or ls k d) q (subst (λ z. slice_get z k ≡ Some (slice_index_or ls k d)) e (slice_get_read ls (length ls) k (get_or ls k d) refl w (get_or_default ls k d (get_or ls k d) w)))

@@ -1,7 +1,9 @@
 -- What the loop over the lines leaves of the points that one segment has in common with them.
-use Rattle.std.specs.Prelude.{◌≡◌, ℕ, ◌<◌, ◌≤◌, ◌⊎◌, List, length, Contains, AllPairs, All, slice_get, slice_index_or, Some}
+use Rattle.std.specs.Prelude.{◌≡◌, ℕ, ◌<◌, ◌⊎◌, List, length, Contains, AllPairs, All, slice_get, Some}
+use Rattle.std.specs.Ordering.{nat_cmp}
 use Rattle.exact.specs.Number.{Less}
-use Rattle.exact.specs.Plane.{ExactPoint, SamePoint, Before, ExactSegment, Cross, IsPointCanonical, IsPointRepresentable}
+use Rattle.exact.specs.Plane.{ExactPoint, SamePoint, Before, ExactSegment, OnBoth, Cross, IsPointCanonical, IsPointRepresentable}
+use Rattle.chains.specs.Chains.{Ascends}
 use Rattle.subdivide.specs.Subdivision.{Line}
 use Rattle.subdivide.specs.declared.edge.CutBad.{CutBad}
 use Rattle.subdivide.specs.declared.edge.CutBad.TheVariants as bad
@@ -20,9 +22,11 @@ AreBeside s t = Less s.q.x t.p.x ⊎ Less t.q.x s.p.x
 abbrev pub AreAtHeights : ExactSegment → ExactSegment → Type 0
 AreAtHeights s t = LiesBelow s t ⊎ LiesBelow t s
 
--- after the four sides no line begins left of one before it
-abbrev pub BeginInOrder : List Line → Type 0
-BeginInOrder lines = (i j : ℕ) (d : Line) → 4 ≤ i → i < j → j < length lines → ¬ Less (slice_index_or lines j d).seg.p.x (slice_index_or lines i d).seg.p.x
+-- ascending places of lines, each once; a line at none of them has no point of s
+pub record Covers (s : ExactSegment) (lines : List Line) (places : List ℕ) : Type 0 where
+  pub ascends : Ascends nat_cmp places
+  pub within : All (λ place. place < length lines) places
+  pub rest : (k : ℕ) (l : Line) → slice_get lines k ≡ Some l → ¬ Contains places k → (r : ExactPoint) → ¬ OnBoth r s l.seg
 
 -- the list has the point, by these numbers or others
 abbrev pub Holds : List ExactPoint → ExactPoint → Type 0

@@ -1,6 +1,7 @@
 pub mod Subdivision
 pub mod Chain
 pub mod Crossings
+pub mod Strips
 pub mod Gathered
 pub mod Steps
 pub mod Lines

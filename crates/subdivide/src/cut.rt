@@ -1,11 +1,12 @@
 //! A pattern is cut line after line: the chain of each, then all points once, then all edges.
 
 ghost use Rattle.std.specs.Prelude.{◌≡◌, ℕ, ◌≤◌, List, All, IfOk, IfErr, false, length};
+ghost use Rattle.subdivide.specs.Crossings.{IsChainAmong, RefusesChain};
+ghost use Rattle.subdivide.specs.Strips.{AreStrips};
 ghost use Rattle.sheet.specs.Pattern.{ExactPattern};
 ghost use Rattle.chains.specs.Chains.{Ascends};
 ghost use Rattle.ports.specs.Stops.{Answers};
 ghost use Rattle.subdivide.specs.Subdivision.{IsSubdivision};
-ghost use Rattle.subdivide.specs.Crossings.{BeginInOrder};
 ghost use Rattle.subdivide.specs.Gathered.{IsGathered};
 ghost use Rattle.subdivide.specs.Lines.{AreLinesOf, RefusesLines};
 ghost use Rattle.subdivide.specs.CutAnswers.{IsCutAnswer};
@@ -15,6 +16,7 @@ use crate::edges::edges_of;
 use crate::gather::{Chain, Gathered};
 use crate::line::Line;
 use crate::lines::lines_of;
+use crate::strips::{Held, reached, strips_of};
 use crate::{CutBad, Edge};
 use pattern::Pattern;
 use plane::Point;
@@ -77,19 +79,36 @@ impl Subdivision {
     }
 }
 
+/// The vertices on a line, with the kind of the edges between them.
+fn chain(
+    alloc: Global,
+    held: &[Held],
+    lines: &[Line],
+    line: &Line,
+    places: &mut Vec<usize>,
+) -> Result<Chain, Stop<CutBad>>
+    requires { AreStrips lines.now held.now }
+    ensures ok { IfOk result (λ chain. (chain.kind ≡ line.now.kind) × IsChainAmong line.now.seg lines.now chain.points.items) }
+    ensures err { IfErr result (λ e. RefusesChain line.now.seg lines.now e) }
+{
+    reached(held, lines, line.seg(), places)?;
+    let points = chain_of(alloc, line.seg(), lines, places)?;
+    Ok(Chain {
+        kind: line.kind(),
+        points,
+    })
+}
+
 /// The chains of all lines, which are the sides and then the creases, ascending.
 fn gather(alloc: Global, lines: &[Line]) -> Result<Gathered, Stop<CutBad>>
-    requires { BeginInOrder lines.now }
     ensures ok { IfOk result (λ g. IsGathered lines.now (length lines.now) g) }
     ensures err { IfErr result (λ e. RefusesLines lines.now e) }
 {
+    let held = strips_of(alloc, lines)?;
     let mut gathered = Gathered::new(alloc);
+    let mut places = Vec::new(alloc);
     for line in lines {
-        let points = chain_of(alloc, line.seg(), lines)?;
-        gathered.add(Chain {
-            kind: line.kind(),
-            points,
-        })?;
+        gathered.add(chain(alloc, &held, lines, line, &mut places)?)?;
     }
     Ok(gathered)
 }

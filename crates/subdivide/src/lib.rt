@@ -12,6 +12,7 @@ mod lines;
 mod live;
 mod plan;
 mod stars;
+mod strips;
 
 pub use cut::{Subdivision, scratch};
 pub use edge::{CutBad, Edge, EdgeKind, VERTEX_LIMIT};

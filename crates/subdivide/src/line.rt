@@ -2,7 +2,7 @@
 
 ghost use Rattle.std.specs.Prelude.{◌≡◌, ◌<◌, IsTrue, ◌↔◌};
 ghost use Rattle.exact.specs.Number.{Less};
-ghost use Rattle.exact.specs.Plane.{IsSegment};
+ghost use Rattle.exact.specs.Plane.{ExactPoint, IsSegment, OnBoth};
 ghost use Rattle.plane.specs.Meets.{Meets, HasCanonicalPoints};
 ghost use Rattle.subdivide.specs.Crossings.{LiesBelow, AreBeside, AreAtHeights};
 
@@ -89,12 +89,19 @@ fn are_at_heights(s: &Seg, t: &Seg) -> bool
     is_below(s, t) || is_below(t, s)
 }
 
+/// Whether the extents of two segments do not meet, so that they have no common point.
+pub fn are_apart(s: &Seg, t: &Seg) -> bool
+    ensures { IsTrue result → (r : ExactPoint) → ¬ OnBoth r s.now t.now }
+{
+    are_beside(s, t) || are_at_heights(s, t)
+}
+
 /// What two lines have in common. A pair whose extents do not meet is told apart by comparing ends alone.
 pub fn common(s: &Seg, t: &Seg) -> Meet
     ensures meets { Meets s.now t.now result }
     ensures canonical { HasCanonicalPoints result }
 {
-    if are_beside(s, t) || are_at_heights(s, t) {
+    if are_apart(s, t) {
         Meet::Apart
     } else if is_same(s, t) {
         all_of(s)

@@ -2,12 +2,8 @@ use Rattle.std.proofs.Common.{length, sym, subst}
 use Rattle.std.proofs.lemmas.Result.{err_from_is_err_and}
 use Rattle.subdivide.specs.Subdivision.{ExactSubdivision, Answer, CutOf}
 use Rattle.subdivide.proofs.Known.{known}
-use Rattle.subdivide.proofs.LinePlaces.{begin_in_order}
 use Rattle.subdivide.proofs.Whole.{refuses_cut, too_many, chains_within, cut_by}
 use Rattle.subdivide.proofs.cut.cut.Goals as goal
-
-pub gather-requires : goal.gather-requires
-gather-requires c = begin_in_order c.requires.0 c.requires.1.is c.args.lines.now c.requires.1.same
 
 pub returns-in_err-gathered : goal.returns-in_err-gathered
 returns-in_err-gathered c = λ pattern a. let p = err_from_is_err_and c.from_residual.result c.from_residual.ensures.1 in
