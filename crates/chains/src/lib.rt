@@ -1,7 +1,7 @@
 //! Ascending lists: what is in them once, where it stands, and what stands beside it.
 #![tactic(auto)]
 
-ghost use Rattle.std.specs.Prelude.{◌≡◌, ◌<◌, ◌↔◌, Contains, IfSome, IsNone, slice_index_or, length};
+ghost use Rattle.std.specs.Prelude.{◌≡◌, ◌<◌, Contains, IfSome, IsNone, slice_index_or, length};
 ghost use Rattle.std.specs.declared.cmp.Ordering.{Ordering};
 ghost use Rattle.chains.specs.Chains.{Ascends};
 

@@ -8,7 +8,7 @@ use Rattle.lattice.specs.Lattice.{Measures, IsLattice}
 use Rattle.lattice.specs.Near.{IsAnswer}
 use Rattle.lattice.specs.declared.near.Near.{Near}
 use Rattle.lattice.specs.declared.near.Near.TheVariants as near
-use Rattle.lattice.proofs.Apart.{far_away}
+use Rattle.lattice.proofs.callers.Apart.{far_away}
 use Rattle.decimals.specs.Decimal.{capped, cap}
 use Rattle.cpfile.specs.CpAxes.{ExactAxis}
 

@@ -20,9 +20,6 @@ many : (words : List Word) → length (texts_of words) ≡ length words
 many [] = refl
 many (w ∷ words) = ap suc (many words)
 
-pub not_five : (words : List Word) (t : Texts) → length words ≢ 5 → texts_of words ≡ in_order t → ⊥
-not_five words t n e = n (sym (many words) ∙ ap length e)
-
 pub one_order : (t u : Texts) → in_order t ≡ in_order u → t ≡ u
 one_order t u e =
     let a : t.kind ≡ u.kind = cc in

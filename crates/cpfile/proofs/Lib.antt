@@ -1,3 +1,4 @@
+pub mod callers
 pub mod Known
 pub mod Capping
 pub mod FiveWords
@@ -5,6 +6,5 @@ pub mod Ends
 pub mod OneCpText
 pub mod LineSteps
 pub mod TextLines
-pub mod WholeText
 pub mod OneLine
 pub mod OneReading

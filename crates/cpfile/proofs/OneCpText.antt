@@ -1,7 +1,7 @@
 -- A subdivision has one CP text.
 use Rattle.std.proofs.Common.{◌≡◌, ℕ, List, sym, ap, ◌∙◌}
 use Rattle.subdivide.specs.Subdivision.{ExactSubdivision}
-use Rattle.decimals.proofs.Points.{points_are_one}
+use Rattle.decimals.proofs.callers.Points.{points_are_one}
 use Rattle.cpfile.specs.CpText.{IsCpText, cp_lines}
 
 pub text_is_one : (s : ExactSubdivision) (text other : List ℕ)

@@ -6,7 +6,7 @@ use Rattle.exact.specs.Number.{ExactNumber, Less, IsCanonical}
 use Rattle.exact.specs.Plane.{ExactPoint, ExactSegment, Before}
 use Rattle.exact.proofs.Unique.{unique}
 use Rattle.exact.proofs.Positive.{less_trans}
-use Rattle.exact.proofs.Told.{less_not_same}
+use Rattle.exact.proofs.Told.{less_not_same, less_not_back}
 use Rattle.geometry.proofs.PointOrder.{before_not_itself, before_not_back}
 use Rattle.sheet.specs.Sheet.{ExactSheet, OnBorder}
 use Rattle.sheet.specs.declared.colour.Colour.{Colour}
@@ -15,10 +15,10 @@ use Rattle.lattice.specs.Lattice.{Measures, IsNearValue}
 use Rattle.lattice.specs.Near.{IsAnswer}
 use Rattle.lattice.specs.declared.near.Near.TheVariants as near
 use Rattle.decimals.specs.Decimal.{IsDecimal}
-use Rattle.decimals.proofs.Spelling.{decimal_one}
+use Rattle.decimals.proofs.callers.Spelling.{decimal_one}
 use Rattle.lines.specs.Words.{Word, AreWords}
 use Rattle.lines.proofs.callers.Words.{one_list}
-use Rattle.lines.proofs.callers.Elements.{same_heads}
+use Rattle.chains.proofs.callers.Elements.{same_heads}
 use Rattle.cpfile.specs.CpDrawing.{IsKind, Fields, HasFields, Coordinate, coordinates, IsAt, IsPlaced, IsUnplaced, AreEnds, Joins, DrawsBetween, DrawsFields, DrawsWords, DrawsLine}
 use Rattle.cpfile.specs.declared.bad.CpWhy.{CpWhy}
 use Rattle.cpfile.specs.declared.bad.CpWhy.TheVariants as why
@@ -82,9 +82,6 @@ at_one l c u v h k = unique u v h.held k.held (k.near.1 u h.near.0)
 not_itself : (u : ExactNumber) → Less u u → ⊥
 not_itself u h = less_not_same u u h (record { a = refl; b = refl })
 
-not_both : (u v : ExactNumber) → Less u v → Less v u → ⊥
-not_both u v h k = not_itself u (less_trans u v u h k)
-
 -- the least of a set against another number of it
 above : (l : Measures) (c : Coordinate) (u v w : ExactNumber) → IsCanonical u → IsCanonical v → IsCanonical w → IsAnswer l c.axis c.units (near.Two u v) → IsNearValue l c.axis c.units w → (w ≡ u) ⊎ ((w ≡ v) ⊎ Less v w)
 above l c u v w p q r h k = elim (h.3 w k) [
@@ -100,7 +97,7 @@ least_by u v w h (inr (inr f)) = inr (less_trans u v w h f)
 both_least : (u w : ExactNumber) → (w ≡ u) ⊎ Less u w → (u ≡ w) ⊎ Less w u → u ≡ w
 both_least u w (inl e) k = sym e
 both_least u w (inr h) (inl e) = e
-both_least u w (inr h) (inr k) = absurd (not_both u w h k)
+both_least u w (inr h) (inr k) = absurd (less_not_back u w h k)
 
 next_by : (u v w : ExactNumber) → Less u w → (w ≡ u) ⊎ ((w ≡ v) ⊎ Less v w) → (w ≡ v) ⊎ Less v w
 next_by u v w h (inl e) = absurd (not_itself u (subst (Less u) e h))

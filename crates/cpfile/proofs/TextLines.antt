@@ -4,7 +4,7 @@ use Rattle.std.specs.Prelude.{Contains}
 use Rattle.std.proofs.lemmas.Bool.{cases_order}
 use Rattle.lines.specs.Lines.{IsFirstLine, IsBare, EndsInReturn}
 use Rattle.lines.proofs.callers.Lines.{one_line}
-use Rattle.lines.proofs.callers.Elements.{has_cases, has_none, same_heads, same_tails}
+use Rattle.chains.proofs.callers.Elements.{has_cases, has_none, same_heads, same_tails}
 use Rattle.cpfile.specs.CpDrawing.{AreTextLines}
 
 -- each text has a first line

@@ -1,5 +1,6 @@
 -- The lines of a CP text, and what each of them draws.
-use Rattle.std.specs.Prelude.{◌≡◌, ◌≢◌, ℕ, ◌+◌, ◌<◌, ◌≤◌, ◌⊎◌, List, [], ◌∷◌, ◌++◌, length, All, ℤ, Option, Some, None, Result, Ok, Err}
+use Rattle.std.specs.Prelude.{◌≡◌, ◌≢◌, ℕ, ◌+◌, ◌<◌, ◌≤◌, ◌⊎◌, List, [], ◌∷◌, ◌++◌, length, All, ℤ, Option}
+use Rattle.std.specs.Prelude.{Some, None, Result, Ok, Err}
 use Rattle.exact.specs.Number.{ExactNumber, IsCanonical}
 use Rattle.exact.specs.Plane.{ExactPoint, ExactSegment, IsSegment}
 use Rattle.sheet.specs.Sheet.{ExactSheet, OnBorder}
@@ -105,8 +106,8 @@ pub record AreEnds (l : Measures) (sheet : ExactSheet) (fields : Fields) (p q : 
 abbrev pub Joins : ExactSegment → ExactPoint → ExactPoint → Type 0
 Joins s p q = IsSegment s × HasEnds s p q
 
--- What a line of this type draws between its near points. It is dropped where they are one point or it lies on a
--- side, whatever its type.
+-- What a line of this type draws between its near points. It is dropped where they are one point or
+-- it lies on a side, whatever its type.
 abbrev pub DrawsBetween : ExactSheet → Option Colour → ExactPoint → ExactPoint → Result Drawn CpWhy → Type 0
 DrawsBetween sheet kind p q (Ok drawn.Nothing) = ⊥
 DrawsBetween sheet kind p q (Ok drawn.Dropped) =

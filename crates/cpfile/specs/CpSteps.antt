@@ -21,7 +21,11 @@ pub record Tally : Type 0 where
 abbrev pub with_line : Drawn → Tally → Tally
 with_line drawn.Nothing t = record { creases = t.creases; dropped = t.dropped; lines = t.lines + 1 }
 with_line drawn.Dropped t = record { creases = t.creases; dropped = t.dropped + 1; lines = t.lines + 1 }
-with_line (drawn.Line f) t = record { creases = t.creases ++ f ∷ []; dropped = t.dropped; lines = t.lines + 1 }
+with_line (drawn.Line f) t = record {
+  creases = t.creases ++ f ∷ [];
+  dropped = t.dropped;
+  lines = t.lines + 1;
+}
 
 abbrev pub tally_of : List DrawnLine → Tally
 tally_of all = record { creases = creases_of all; dropped = dropped_of all; lines = length all }

@@ -19,8 +19,8 @@ type_digit kind.A = 52
 abbrev pub place_text : DecimalPoint → List ℕ
 place_text p = decimal_text p.x ++ 32 ∷ decimal_text p.y
 
--- The place of a vertex by its number. Each edge has its ends among the vertices, so that what stands past the
--- last is never asked for.
+-- The place of a vertex by its number. Each edge has its ends among the vertices, so that what
+-- stands past the last is never asked for.
 abbrev pub place_of : List DecimalPoint → ℕ → DecimalPoint
 place_of places i = slice_index_or places i (record { x = pos 0; y = pos 0 })
 
@@ -34,8 +34,9 @@ cp_line places e =
 abbrev pub cp_lines : List DecimalPoint → List Edge → List ℕ
 cp_lines places = flat_map (cp_line places)
 
--- In CP text a length of 1 is 400, and the lower left corner of the sheet is at -200 -200: where a vertex is at x,
--- its place is at the whole part of 400·10^12·x, less 200·10^12, in units of 10^-12.
+-- In CP text a length of 1 is 400, and the lower left corner of the sheet is at -200 -200: where a
+-- vertex is at x, its place is at the whole part of 400·10^12·x, less 200·10^12, in units of
+-- 10^-12.
 abbrev pub AreCpPlaces : ExactSubdivision → List DecimalPoint → Type 0
 AreCpPlaces s = AreDecimalPoints (400 * 10 ^ 12) (200 * 10 ^ 12) s.vertices
 

@@ -1,5 +1,5 @@
 //! The five fields of a line.
-ghost use Rattle.std.specs.Prelude.{◌≡◌, ◌≢◌, ◌∷◌, [], ◌≤◌, Option, IfSome, IsNone, MatchOption, length};
+ghost use Rattle.std.specs.Prelude.{◌≡◌, ◌≢◌, ◌∷◌, [], Option, IfSome, IsNone, MatchOption, length};
 ghost use Rattle.sheet.specs.declared.colour.Colour.{Colour as AnyColour};
 ghost use Rattle.cpfile.specs.CpDrawing.{Fields, IsKind};
 ghost use Rattle.cpfile.specs.CpAxes.{AreRead};

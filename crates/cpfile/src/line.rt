@@ -1,6 +1,5 @@
 //! What a line of CP text draws.
 ghost use Rattle.std.specs.Prelude.{◌≡◌, Option};
-ghost use Rattle.lattice.specs.Lattice.{Measures};
 ghost use Rattle.ports.specs.Stops.{Answers};
 ghost use Rattle.cpfile.specs.CpDrawing.{DrawsLine, DrawsBetween};
 ghost use Rattle.cpfile.specs.CpAxes.{Ruled, PlacesEnds};

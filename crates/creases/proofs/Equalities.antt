@@ -4,7 +4,7 @@ use Rattle.std.specs.Prelude.{◌↔◌, ◌&&◌}
 use Rattle.std.proofs.lemmas.Bool.{eqb-true, eq-eqb, true≢false}
 use Rattle.exact.specs.Number.{ExactNumber}
 use Rattle.plane.specs.Support.{ExactLine}
-use Rattle.plane.proofs.Zeros.{fields_told}
+use Rattle.plane.proofs.callers.Zeros.{fields_told}
 
 both_told : (a b : Bool) (P Q : Type 0) → IsTrue a ↔ P → IsTrue b ↔ Q → IsTrue (a && b) ↔ (P × Q)
 both_told true b P Q p q = (λ t. (p.0 refl, q.0 t), λ r. q.1 r.1)

@@ -12,7 +12,7 @@ use Rattle.creases.specs.Creases.{Ascends}
 use Rattle.creases.specs.Segments.{creases_of, AreFound}
 use Rattle.creases.specs.Standing.{AreStanding}
 use Rattle.creases.specs.Creases.{IsFree, coloured_as}
-use Rattle.creases.proofs.SegmentChanges.{entries_ascend, taken_one, put_one}
+use Rattle.creases.proofs.callers.SegmentChanges.{entries_ascend, taken_one, put_one}
 use Rattle.creases.proofs.callers.Members.{all_of, one_on_segment, same_list}
 use Rattle.creases.proofs.callers.Overlaps.{overlap_itself}
 use Rattle.creases.proofs.callers.Standing.{held_in, some_standing, more_standing, more_are_held, recoloured_standing, recoloured_are_held}

@@ -13,7 +13,7 @@ use Rattle.sheet.specs.declared.colour.Colour.{Colour}
 use Rattle.creases.specs.Creases.{IsFree, coloured_as}
 use Rattle.creases.specs.declared.place.Place.{Place}
 use Rattle.creases.proofs.PlaceKeys.{place_total, place_exact, at_or_not, one_place, overlap_at}
-use Rattle.creases.proofs.SegmentChanges.{none_or_some}
+use Rattle.creases.proofs.callers.SegmentChanges.{none_or_some}
 use Rattle.creases.proofs.callers.Standing.{more_are_apart, more_are_held, recoloured_are_apart, recoloured_are_held}
 use Rattle.std.proofs.lemmas.List.Elements.{All-contains}
 

@@ -11,8 +11,8 @@ use Rattle.exact.proofs.Order.{first_equal}
 use Rattle.exact.specs.Plane.{ExactPoint, ExactSegment, IsSegment, Before, Overlap}
 use Rattle.plane.specs.Order.{point_cmp}
 use Rattle.plane.specs.Support.{ExactLine, line_cmp}
-use Rattle.plane.proofs.Orders.{point_total, point_exact}
-use Rattle.plane.proofs.Supports.{line_total, line_exact, one_line_only}
+use Rattle.plane.proofs.callers.Orders.{point_total, point_exact}
+use Rattle.plane.proofs.callers.Supports.{line_total, line_exact, one_line_only}
 use Rattle.creases.proofs.callers.Overlaps.{overlap_within}
 use Rattle.creases.specs.Places.{IsPlaceOf, place_cmp}
 use Rattle.creases.specs.declared.place.Place.{Place}

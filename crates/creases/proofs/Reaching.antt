@@ -8,8 +8,8 @@ use Rattle.geometry.proofs.PointOrder.{before_trans}
 use Rattle.plane.specs.Order.{point_cmp}
 use Rattle.plane.specs.Segments.{IsHeld}
 use Rattle.plane.specs.Support.{ExactLine, IsSupportOf, line_cmp}
-use Rattle.plane.proofs.Orders.{point_less}
-use Rattle.plane.proofs.Supports.{other_support, one_line_only}
+use Rattle.plane.proofs.callers.Orders.{point_less}
+use Rattle.plane.proofs.callers.Supports.{other_support, one_line_only}
 use Rattle.creases.specs.Places.{IsPlaceOf, IsEndOf, place_cmp}
 use Rattle.creases.specs.declared.place.Place.{Place}
 use Rattle.creases.proofs.PlaceKeys.{tie, line_or_not, line_between, not_from_before}

@@ -2,3 +2,6 @@
 pub mod Members
 pub mod Overlaps
 pub mod Standing
+pub mod Lookups
+pub mod SegmentChanges
+pub mod Told

@@ -23,4 +23,5 @@ pub record IsIndex (entries : List (Place × ExactCrease)) : Type 0 where
 -- the creases that overlap the segment are those at places from one on, and before another
 abbrev pub OverlapBetween : List (Place × ExactCrease) → ExactSegment → Place → Place → Type 0
 OverlapBetween entries s from end = (k : Place) (f : ExactCrease)
-    → lookup (is_at (place_cmp k)) entries ≡ Some f → IsInRange place_cmp (Included from) (Excluded end) k ↔ Overlap f.seg s
+    → lookup (is_at (place_cmp k)) entries ≡ Some f
+    → IsInRange place_cmp (Included from) (Excluded end) k ↔ Overlap f.seg s

@@ -6,7 +6,7 @@ use Rattle.crimp.specs.Rules.{Rules}
 use Rattle.layers.specs.declared.sector_list.Sector.{Sector}
 use Rattle.layers.specs.Sectors.{sector_at}
 use Rattle.layers.specs.LayerOrder.{place, before, height, IsLayerOrder}
-use Rattle.layers.proofs.Places.{before_lt, place_zero}
+use Rattle.layers.proofs.callers.Places.{before_lt, place_zero}
 use Rattle.crimp.proofs.Partial.{Partial, Next}
 use Rattle.crimp.proofs.Places.{inside_moved, between_moved}
 use Rattle.crimp.proofs.PutIn.{get_or-height}

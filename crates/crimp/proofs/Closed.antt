@@ -8,7 +8,7 @@ use Rattle.layers.specs.declared.sector_list.Sector.{Sector}
 use Rattle.layers.specs.LayerOrder.{place}
 use Rattle.crimp.proofs.Turned.{Turned}
 use Rattle.crimp.specs.Crimps.{joined}
-use Rattle.layers.proofs.Places.{place_down, place_up, place_zero}
+use Rattle.layers.proofs.callers.Places.{place_down, place_up, place_zero}
 use Rattle.crimp.proofs.Cycle.{length_turn, turn_back}
 
 -- the place at the end, from the front on

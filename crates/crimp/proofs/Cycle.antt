@@ -14,7 +14,7 @@ use Rattle.crimp.proofs.Turned.{Turned}
 use Rattle.crimp.specs.Undoing.{IsUp, undone_up, undone_down}
 use Rattle.layers.specs.Sectors.{behind}
 use Rattle.crimp.specs.Cycle.{merged, no_entry, numbers_of, entry_at, crimped_at, Step, IsCycle, Layered, Crimpable, total}
-use Rattle.layers.proofs.Places.{before_lt, behind_lt}
+use Rattle.layers.proofs.callers.Places.{before_lt, behind_lt}
 use Rattle.crimp.proofs.Places.{Folded}
 use Rattle.crimp.proofs.Cyclic.{in_append, in_left, in_right, in_turned, linked_turned, fewer, crimp_at_front}
 use Rattle.crimp.proofs.Crimp.{Crimp}

@@ -7,7 +7,7 @@ use Rattle.layers.specs.declared.sector_list.Sector.{Sector}
 use Rattle.layers.specs.Star.{ray_at}
 use Rattle.layers.specs.Sectors.{sector_at, AreSectors}
 use Rattle.crimp.specs.Crimps.{AllOpen}
-use Rattle.layers.proofs.Places.{behind_inner, behind_outer}
+use Rattle.layers.proofs.callers.Places.{behind_inner, behind_outer}
 
 -- the sum of the angles
 unfoldable pub angles : List Sector → ℕ

@@ -16,7 +16,7 @@ use Rattle.crimp.specs.Crimps.{joined, after_crimp, CanCrimp, Foldable, AllOpen,
 use Rattle.crimp.specs.Crimps as crimps
 use Rattle.crimp.specs.Entries.{sector_for, IsPartOf}
 use Rattle.crimp.specs.BlockedRun.{CrimpsTo, Ended, Goes}
-use Rattle.layers.proofs.Places.{before_lt, behind_lt}
+use Rattle.layers.proofs.callers.Places.{before_lt, behind_lt}
 use Rattle.crimp.proofs.Turns.{fronted}
 use Rattle.crimp.proofs.Cycle.{length_turn}
 use Rattle.crimp.proofs.Start.{in_at, in_from, get_or-numbers_of}

@@ -33,13 +33,6 @@ unfolding other
 other_twice kind.V = refl
 other_twice kind.M = refl
 
-opposite_other : (m n : Mark) → Opposite m n → Opposite (other m) (other n)
-unfolding other
-opposite_other kind.V kind.V o = o
-opposite_other kind.V kind.M o = o
-opposite_other kind.M kind.V o = o
-opposite_other kind.M kind.M o = o
-
 agrees_other : (m : Mark) (a b n : ℕ) (rank new : ℕ → ℕ) → new a + rank a ≡ n → new b + rank b ≡ n → Agrees m a b rank → Agrees (other m) a b new
 unfolding other
 agrees_other kind.V a b n rank new e f g = (λ o. let l = g.0 o in omega arith, λ o. let l = g.1 o in omega arith)

@@ -13,7 +13,7 @@ use Rattle.crimp.specs.Cyclic.{Rises}
 use Rattle.crimp.specs.Cycle.{numbers_of, entry_at, no_entry}
 use Rattle.crimp.specs.Entries.{sector_for, IsPartOf, IsLeastEntry, BeginsRun, IsStart}
 use Rattle.crimp.specs.BlockedRun.{IsLeast, IsRun, IsNamedRun}
-use Rattle.layers.proofs.Places.{before_lt}
+use Rattle.layers.proofs.callers.Places.{before_lt}
 use Rattle.crimp.proofs.Start.{in_from, get_or-numbers_of}
 use Rattle.crimp.proofs.Law.{get_or-map}
 use Rattle.crimp.proofs.Stuck.{least_one}

@@ -7,7 +7,7 @@ use Rattle.crimp.specs.declared.entries.Entry.{Entry}
 use Rattle.layers.specs.declared.sector_list.Sector.{Sector}
 use Rattle.layers.specs.Sectors.{sector_at, behind}
 use Rattle.layers.specs.LayerOrder.{place, before, height, IsLayerOrder}
-use Rattle.layers.proofs.Places.{before_lt, behind_inner, behind_outer, place_down, place_up, place_zero}
+use Rattle.layers.proofs.callers.Places.{before_lt, behind_inner, behind_outer, place_down, place_up, place_zero}
 use Rattle.crimp.proofs.Partial.{Next}
 use Rattle.crimp.specs.Cyclic.{In, Follows, Linked, Distinct}
 use Rattle.crimp.specs.Cycle.{numbers_of, entry_at, no_entry, Step, IsCycle, Layered}

@@ -8,7 +8,7 @@ use Rattle.sheet.specs.declared.mark.Mark.TheVariants as kind
 use Rattle.layers.specs.declared.sector_list.Sector.{Sector}
 use Rattle.layers.specs.Sectors.{sector_at, behind}
 use Rattle.layers.specs.LayerOrder.{place, before, height, IsLayerOrder}
-use Rattle.layers.proofs.Places.{place_down, place_up}
+use Rattle.layers.proofs.callers.Places.{place_down, place_up}
 use Rattle.crimp.proofs.Partial.{Next}
 use Rattle.crimp.specs.Crimping.{Opposite}
 use Rattle.crimp.specs.Crimps.{CanCrimp}

@@ -7,7 +7,7 @@ use Rattle.layers.specs.Sectors.{sector_at}
 use Rattle.layers.specs.LayerOrder.{before}
 use Rattle.crimp.specs.Cyclic.{In}
 use Rattle.crimp.specs.Crimps.{joined, after_crimp, CanCrimp, Foldable, AllOpen, Crimps, Done, Then}
-use Rattle.layers.proofs.Places.{before_lt}
+use Rattle.layers.proofs.callers.Places.{before_lt}
 use Rattle.crimp.proofs.Turns.{fronted}
 use Rattle.crimp.proofs.Cycle.{in_turn, turn_back}
 use Rattle.crimp.proofs.Start.{in_at, in_from}

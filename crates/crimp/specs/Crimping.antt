@@ -15,5 +15,7 @@ Opposite mark.V mark.V = ⊥
 -- entry i and the one behind it go; the one before i becomes what `merge` makes of the three
 unfoldable pub crimped : {A : Type 0} → (A → A → A → A) → A → List A → ℕ → List A
 crimped merge none xs i =
-    remove (remove (slice_set xs (before (length xs) i) (merge (slice_index_or xs (before (length xs) i) none) (slice_index_or xs i none) (slice_index_or xs (behind (length xs) i) none))) i)
+    remove (remove (slice_set xs (before (length xs) i)
+    (merge (slice_index_or xs (before (length xs) i) none) (slice_index_or xs i none)
+    (slice_index_or xs (behind (length xs) i) none))) i)
     (cond (i + 1 == length xs) 0 i)

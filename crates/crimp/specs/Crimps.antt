@@ -6,7 +6,8 @@ use Rattle.layers.specs.Sectors.{sector_at, behind}
 pub use Rattle.crimp.specs.Foldable.{Foldable}
 use Rattle.crimp.specs.Crimping.{Opposite, crimped}
 
--- the three become one entry: the first direction and the mark of the first, and the angles of the two neighbours together less the one between
+-- the three become one entry: the first direction and the mark of the first, and the angles of the
+-- two neighbours together less the one between
 abbrev pub joined : Sector → Sector → Sector → Sector
 joined p q r = record { first = p.first; mark = p.mark; angle = p.angle + r.angle - q.angle }
 
@@ -31,4 +32,5 @@ Stuck sectors = (i : ℕ) → CanCrimp sectors i → ⊥
 -- crimps, one after another, lead from one list to another
 pub data Crimps : List Sector → List Sector → Type 0 where
   Done : (sectors : List Sector) → Crimps sectors sectors
-  Then : (sectors ends : List Sector) (i : ℕ) → CanCrimp sectors i → Crimps (after_crimp sectors i) ends → Crimps sectors ends
+  Then : (sectors ends : List Sector) (i : ℕ) → CanCrimp sectors i → Crimps (after_crimp sectors i) ends
+      → Crimps sectors ends

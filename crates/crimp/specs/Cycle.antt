@@ -1,5 +1,6 @@
 -- A list that is being crimped: sectors with their own numbers, each at the places that it had in the star.
-use Rattle.std.specs.Prelude.{◌≡◌, ◌≢◌, ℕ, ◌+◌, ◌-◌, ◌<◌, ◌≤◌, ◌%◌, List, [], ◌∷◌, length, map, slice_index_or, ℤ, pos, ◌+ℤ◌, ◌-ℤ◌}
+use Rattle.std.specs.Prelude.{◌≡◌, ◌≢◌, ℕ, ◌+◌, ◌-◌, ◌<◌, ◌≤◌, ◌%◌, List, [], ◌∷◌, length, map}
+use Rattle.std.specs.Prelude.{slice_index_or, ℤ, pos, ◌+ℤ◌, ◌-ℤ◌}
 use Rattle.sheet.specs.declared.mark.Mark.{Mark}
 use Rattle.sheet.specs.declared.mark.Mark.TheVariants as mark
 use Rattle.crimp.specs.declared.entries.Entry.{Entry}
@@ -26,7 +27,8 @@ entry_at es i = slice_index_or es i (record { number = 0; mark = mark.M; angle =
 abbrev pub crimped_at : List Entry → ℕ → List Entry
 crimped_at es i = crimped merged no_entry es i
 
--- sector f comes behind sector e: it is odd where e is even, and its place is the angle of e further, up from an even e, down from an odd one
+-- sector f comes behind sector e: it is odd where e is even, and its place is the angle of e
+-- further, up from an even e, down from an odd one
 pub record Step (x : ℕ → ℤ) (e f : Entry) : Type 0 where
   pub odd : f.number % 2 ≢ e.number % 2
   pub up : e.number % 2 ≡ 0 → x f.number ≡ x e.number +ℤ pos e.angle
@@ -69,7 +71,8 @@ pub record IsPair (es : List Entry) : Type 0 where
 -- crimping at the first entry that can be crimped, again and again, ends with this list
 pub data Ends : List Entry → List Entry → Type 0 where
   Stop : (es : List Entry) → ((i : ℕ) → Crimpable es i → ⊥) → Ends es es
-  Go : (es fs : List Entry) (i : ℕ) → Crimpable es i → ((j : ℕ) → j < i → Crimpable es j → ⊥) → Ends (crimped_at es i) fs → Ends es fs
+  Go : (es fs : List Entry) (i : ℕ) → Crimpable es i → ((j : ℕ) → j < i → Crimpable es j → ⊥)
+      → Ends (crimped_at es i) fs → Ends es fs
 
 -- a sector with its number
 abbrev pub entry_for : ℕ → Sector → Entry

@@ -1,12 +1,14 @@
 //! Crimping a list of sectors, and the order that comes back.
 
-ghost use Rattle.std.specs.Prelude.{◌≡◌, ◌+◌, ◌<◌, ◌≤◌, ◌↔◌, ℕ, ℤ, [], ◌∷◌, length, IsTrue, IsSome, IfSome, IfNone, true, false, cond, ◌==◌, ◌-◌};
+ghost use Rattle.std.specs.Prelude.{◌≡◌, ◌+◌, ◌<◌, ◌≤◌, ◌↔◌, ℕ, ℤ, [], ◌∷◌, length, IsTrue, IsSome, IfSome};
+ghost use Rattle.std.specs.Prelude.{IfNone, true, false, cond, ◌==◌, ◌-◌};
 ghost use Rattle.sheet.specs.declared.mark.Mark.{Mark as AnyMark};
 ghost use Rattle.crimp.specs.Crimping.{Opposite};
 ghost use Rattle.crimp.specs.Undoing.{IsUp, undone_up, undone_down};
 ghost use Rattle.layers.specs.Sectors.{behind as behind_of};
 ghost use Rattle.layers.specs.LayerOrder.{before as before_of, height};
-ghost use Rattle.crimp.specs.Cycle.{Crimpable, IsCycle, Layered, entry_at, crimped_at, numbers_of, merged, total, IsSomeCycle, IsPair, Ends};
+ghost use Rattle.crimp.specs.Cycle.{Crimpable, IsCycle, Layered, entry_at, crimped_at, numbers_of, merged};
+ghost use Rattle.crimp.specs.Cycle.{total, IsSomeCycle, IsPair, Ends};
 
 use crate::entries::Entry;
 use arrayvec::ArrayVec;
@@ -52,7 +54,9 @@ fn is_up(number: u8, mark: Mark) -> bool
 /// Whether the entry at `i` is least.
 pub(crate) fn is_least(entries: &[Entry], i: usize) -> bool
     requires { i < length entries.now }
-    ensures { IsTrue result ↔ ((j : ℕ) → j < length entries.now → (entry_at entries.now i).angle ≤ (entry_at entries.now j).angle) }
+    ensures { IsTrue result
+        ↔ ((j : ℕ) → j < length entries.now
+        → (entry_at entries.now i).angle ≤ (entry_at entries.now j).angle) }
 {
     for other in entries {
         if other.angle < entries[i].angle {
@@ -111,7 +115,8 @@ fn behind_gone(count: usize, i: usize) -> usize
 /// Crimps the list at `i`: that entry and the one behind it go, and the one before it takes their place.
 fn crimp(entries: &mut ArrayVec<Entry, 16>, i: usize)
     requires crimpable { Crimpable entries.old.items i }
-    requires fits { (entry_at entries.old.items (before_of (length entries.old.items) i)).angle + (entry_at entries.old.items (behind_of (length entries.old.items) i)).angle ≤ 255 }
+    requires fits { (entry_at entries.old.items (before_of (length entries.old.items) i)).angle +
+        (entry_at entries.old.items (behind_of (length entries.old.items) i)).angle ≤ 255 }
     ensures { entries.new.items ≡ crimped_at entries.old.items i }
 {
     let count = entries.len();
@@ -165,7 +170,9 @@ fn pair(low: u8, high: u8) -> ArrayVec<u8, 16>
 
 /// The order of two sectors whose creases have one mark.
 fn base(entries: &[Entry]) -> Option<ArrayVec<u8, 16>>
-    ensures some { IfSome result (λ order. (x : ℕ → ℤ) (mark : ℕ → AnyMark) → IsCycle x mark entries.now → Layered x mark (numbers_of entries.now) order.items) }
+    ensures some { IfSome result
+        (λ order. (x : ℕ → ℤ) (mark : ℕ → AnyMark) → IsCycle x mark entries.now
+        → Layered x mark (numbers_of entries.now) order.items) }
     ensures which { IsSome result ↔ IsPair entries.now }
 {
     if entries.len() != 2 {
@@ -187,7 +194,9 @@ fn base(entries: &[Entry]) -> Option<ArrayVec<u8, 16>>
 pub(crate) fn fold_up(entries: &mut ArrayVec<Entry, 16>) -> Option<ArrayVec<u8, 16>>
     requires cycle { IsSomeCycle entries.old.items }
     requires total { total entries.old.items ≤ 16 }
-    ensures some { IfSome result (λ order. (x : ℕ → ℤ) (mark : ℕ → AnyMark) → IsCycle x mark entries.old.items → Layered x mark (numbers_of entries.old.items) order.items) }
+    ensures some { IfSome result
+        (λ order. (x : ℕ → ℤ) (mark : ℕ → AnyMark) → IsCycle x mark entries.old.items
+        → Layered x mark (numbers_of entries.old.items) order.items) }
     ensures which { IsSome result ↔ IsPair entries.new.items }
     ensures ends { Ends entries.old.items entries.new.items }
 {

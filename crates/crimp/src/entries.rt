@@ -7,7 +7,8 @@ ghost use Rattle.crimp.specs.Cycle.{entry_for, numbered as numbered_from};
 use arrayvec::ArrayVec;
 use layers::{Mark, Sector};
 
-/// A sector in a list that is being crimped: its number in the star, the mark of the crease at which it begins, and its angle.
+/// A sector in a list that is being crimped: its number in the star, the mark of the crease at
+/// which it begins, and its angle.
 #[derive(Clone, Copy, Debug, Default, PartialEq, Eq)]
 pub(crate) struct Entry {
     pub(crate) number: u8,

@@ -1,4 +1,5 @@
-//! Crimping the sectors round a vertex: whether its creases fold flat, with a layer order, and else the run of angles that stands in the way.
+//! Crimping the sectors round a vertex: whether its creases fold flat, with a layer order, and else
+//! the run of angles that stands in the way.
 #![tactic(auto)]
 
 mod crimping;

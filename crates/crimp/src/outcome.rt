@@ -15,7 +15,11 @@ use arrayvec::ArrayVec;
 use layers::{Order, Sectors};
 use qroot2::Dir;
 
-/// The blocked run of a vertex that does not fold flat: a longest stretch of neighbouring sectors of least angle with one mark at all creases between them, in the list with which the crimping ends. `from` is the direction at the run's first crease, `to` that at its last (the same one where the run goes all the way round), `angle` the least angle in units of 22.5 degrees, and `count` the number of sectors.
+/// The blocked run of a vertex that does not fold flat: a longest stretch of neighbouring sectors
+/// of least angle with one mark at all creases between them, in the list with which the crimping
+/// ends. `from` is the direction at the run's first crease, `to` that at its last (the same one
+/// where the run goes all the way round), `angle` the least angle in units of 22.5 degrees, and
+/// `count` the number of sectors.
 #[derive(Clone, Copy, Debug, PartialEq, Eq)]
 pub struct Run {
     pub from: Dir,
@@ -37,7 +41,9 @@ pub enum Outcome {
 fn layer_order(entries: &mut ArrayVec<Entry, 16>) -> Option<Order>
     requires cycle { IsSomeCycle entries.old.items }
     requires total { total entries.old.items ≤ 16 }
-    ensures some { IfSome result (λ order. (x : ℕ → ℤ) (mark : ℕ → AnyMark) → IsCycle x mark entries.old.items → Layered x mark (numbers_of entries.old.items) order) }
+    ensures some { IfSome result
+        (λ order. (x : ℕ → ℤ) (mark : ℕ → AnyMark) → IsCycle x mark entries.old.items
+        → Layered x mark (numbers_of entries.old.items) order) }
     ensures which { IsSome result ↔ IsPair entries.new.items }
     ensures ends { Ends entries.old.items entries.new.items }
 {
@@ -45,9 +51,11 @@ fn layer_order(entries: &mut ArrayVec<Entry, 16>) -> Option<Order>
     Order::new(order.as_slice())
 }
 
-/// Decides a vertex. Its condition is that the number of sectors is even and at least two, and that the places close.
-/// The answer is a layer order exactly where the sectors have one, and else the blocked run.
-/// It crimps a sector of least angle whose creases have opposite marks, again and again, and undoes the crimps in the order: the crimping algorithm of Demaine and O'Rourke, Geometric Folding Algorithms, chapter 12.
+/// Decides a vertex. Its condition is that the number of sectors is even and at least two, and that
+/// the places close. The answer is a layer order exactly where the sectors have one, and else the
+/// blocked run. It crimps a sector of least angle whose creases have opposite marks, again and
+/// again, and undoes the crimps in the order: the crimping algorithm of Demaine and O'Rourke,
+/// Geometric Folding Algorithms, chapter 12.
 pub fn reduce(sectors: &Sectors) -> Outcome
     requires { ClosesUp sectors.now }
     ensures order { IfFolds result (λ order. IsLayerOrder sectors.now order) }

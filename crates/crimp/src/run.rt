@@ -40,7 +40,8 @@ fn run_length(entries: &[Entry], start: usize) -> usize
     requires few { length entries.now ≤ 16 }
     ensures all { result ≤ length entries.now }
     ensures least { (k : ℕ) → k < result → IsLeastEntry entries.now ((start + k) % length entries.now) }
-    ensures ends { (result ≡ length entries.now) ⊎ (IsLeastEntry entries.now ((start + result) % length entries.now) → ⊥) }
+    ensures ends { (result ≡ length entries.now)
+        ⊎ (IsLeastEntry entries.now ((start + result) % length entries.now) → ⊥) }
 {
     for count in 0..entries.len() {
         if !is_least(entries, (start + count) % entries.len()) {

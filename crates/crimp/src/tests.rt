@@ -65,9 +65,11 @@ fn folded(rt: HostRuntime) {
 
 #[test]
 fn stuck(rt: HostRuntime) {
-    // The rabbit ear with two marks exchanged: mountains and valleys differ by two, and the least sector has equal marks.
+    // The rabbit ear with two marks exchanged: mountains and valleys differ by two, and the least
+    // sector has equal marks.
     assert!(rt; sticks(&rt, &[(5, V), (10, M), (12, M), (15, M)], [10, 12, 2, 1]));
-    // A straight crease whose halves have opposite marks: both sectors are least, and the run goes all the way round.
+    // A straight crease whose halves have opposite marks: both sectors are least, and the run goes
+    // all the way round.
     assert!(rt; sticks(&rt, &[(3, M), (11, V)], [3, 3, 8, 2]));
     // Two least sectors in a row, over the least direction.
     assert!(rt; sticks(&rt, &[(0, M), (2, M), (8, V), (14, M)], [14, 2, 2, 2]));

@@ -5,11 +5,9 @@ use Rattle.std.proofs.Math.Nat.{pow-succ'}
 use Rattle.std.proofs.lemmas.Fmt.{AppendsLastDigit, decimal_from_appends_wide, decimal_by_steps_wide, length-decimal-le_wide}
 use Rattle.std.proofs.lemmas.List.{take_all}
 use Rattle.qroot2.specs.Text.{numeral, numeral_by}
-use Rattle.qroot2.proofs.Numerals.{by_small, by_more, numeral_small, numeral_more}
+use Rattle.qroot2.proofs.callers.Numerals.{by_small, by_more, numeral_small, numeral_more}
 use Rattle.decimals.specs.DecimalText.{last_digits}
-
-appends : AppendsLastDigit numeral_by
-appends = record { one = λ k n h. by_small k n h; more = λ k n h. by_more k n h }
+use Rattle.qroot2.proofs.callers.Decimals.{appends}
 
 length_small : (n : ℕ) → n < 10 ^ 64 → length (decimal n) ≤ suc n
 length_small =

@@ -3,15 +3,7 @@ use Rattle.std.proofs.Common.{◌≡◌, ◌≢◌, ℕ, zero, suc, ◌<◌, ◌
 use Rattle.qroot2.specs.Digits.{AllDigits}
 use Rattle.decimals.specs.Decimal.{IsSign}
 use Rattle.decimals.specs.Cutting.{IsUnsigned, IsRun, IsFraction, IsCut, Cut, EndsRun, BeginsNot}
-
-pub same_heads : {b c : ℕ} {bs cs : List ℕ} → b ∷ bs ≡ c ∷ cs → b ≡ c
-same_heads e = cc
-
-pub same_tails : {b c : ℕ} {bs cs : List ℕ} → b ∷ bs ≡ c ∷ cs → bs ≡ cs
-same_tails e = cc
-
-pub no_cons : {b : ℕ} {bs : List ℕ} → [] ≡ b ∷ bs → ⊥
-no_cons e = absurd (cc)
+use Rattle.chains.proofs.callers.Elements.{same_heads, same_tails}
 
 ends_not : (b : ℕ) (bs xs : List ℕ) → xs ≡ b ∷ bs → EndsRun xs → 48 ≤ b → b ≤ 57 → ⊥
 ends_not b bs xs e h l g = told (subst EndsRun e h)

@@ -6,7 +6,7 @@ use Rattle.std.proofs.lemmas.List.{append-nil}
 use Rattle.std.proofs.lemmas.Nat.{div-add-mod', mod_below}
 use Rattle.qroot2.specs.Text.{numeral}
 use Rattle.qroot2.specs.Digits.{AllDigits, value_on}
-use Rattle.qroot2.proofs.Numerals.{value_push, digits_push, value_numeral, numeral_is}
+use Rattle.qroot2.proofs.callers.Numerals.{value_push, digits_push, value_numeral, numeral_is}
 use Rattle.decimals.specs.Decimal.{IsDecimal, IsSign, Spells, Decimal, signed, scaled, units_of}
 use Rattle.decimals.specs.DecimalText.{last_digits, size_text, decimal_text}
 use Rattle.decimals.proofs.Digits.{length_last}

@@ -7,7 +7,7 @@ use Rattle.std.proofs.lemmas.List.{take-append-drop, length-drop, take_all}
 use Rattle.std.proofs.Math.Nat.{pow-succ', mul-le-mul_right, mul-le-mul_left}
 use Rattle.std.proofs.lemmas.Bool.{cases_lt}
 use Rattle.qroot2.specs.Digits.{AllDigits, value_on}
-use Rattle.qroot2.proofs.Splits.{digits_append}
+use Rattle.qroot2.proofs.callers.Splits.{digits_append}
 use Rattle.decimals.specs.Decimal.{scaled, signed, cap}
 use Rattle.decimals.specs.Cutting.{wanted_of}
 

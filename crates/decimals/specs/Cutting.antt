@@ -45,7 +45,8 @@ pub record IsCut (bytes : List ℕ) (cut : Cut) : Type 0 where
   pub before : IsRun plain cut.before rest
   pub behind : IsFraction rest cut.behind cut.tail
 
--- how many digits of a number with so many before its point count units of 10^-12 and above, where it has the exponent
+-- how many digits of a number with so many before its point count units of 10^-12 and above, where
+-- it has the exponent
 abbrev pub wanted_of : ℕ → Bool → ℕ → ℕ
 wanted_of before true size = (before + 12) - size
 wanted_of before false size = before + 12 + size

@@ -1,5 +1,6 @@
 -- Decimals with a sign, a point and an exponent, and what they are worth.
-use Rattle.std.specs.Prelude.{◌≡◌, ℕ, suc, ◌+◌, ◌*◌, ◌/◌, ◌≤◌, ◌^◌, ◌⊎◌, Bool, true, false, List, [], ◌∷◌, ◌++◌, length, min, ℤ, pos, negsuc, ◌+ℤ◌, ◌-ℤ◌, neg_ℤ}
+use Rattle.std.specs.Prelude.{◌≡◌, ℕ, suc, ◌+◌, ◌*◌, ◌/◌, ◌≤◌, ◌^◌, ◌⊎◌, Bool, true, false, List, [], ◌∷◌}
+use Rattle.std.specs.Prelude.{◌++◌, length, min, ℤ, pos, negsuc, ◌+ℤ◌, ◌-ℤ◌, neg_ℤ}
 use Rattle.qroot2.specs.Digits.{AllDigits, value_on}
 
 -- `+`, `-` or no sign
@@ -35,8 +36,8 @@ pub record Decimal : Type 0 where
   pub behind : List ℕ
   pub exponent : ℤ
 
--- The bytes spell the decimal: a sign or none, digits with at most one point among, before or behind them, at least
--- one digit, and an exponent or none.
+-- The bytes spell the decimal: a sign or none, digits with at most one point among, before or
+-- behind them, at least one digit, and an exponent or none.
 pub record Spells (bytes : List ℕ) (decimal : Decimal) : Type 0 where
   pub sign : List ℕ
   pub point : List ℕ
@@ -54,12 +55,13 @@ abbrev pub scaled : ℕ → ℤ → ℕ
 scaled n (pos k) = n * 10 ^ k
 scaled n (negsuc k) = n / 10 ^ suc k
 
--- With N the number of all digits, f of them behind the point, and the exponent e: the value N · 10^(e - f) in units
--- of 10^-12, cut toward zero.
+-- With N the number of all digits, f of them behind the point, and the exponent e: the value N ·
+-- 10^(e - f) in units of 10^-12, cut toward zero.
 abbrev pub units_of : Decimal → ℤ
 units_of decimal =
     signed decimal.minus
-    (scaled (value_on 0 (decimal.before ++ decimal.behind)) ((decimal.exponent +ℤ pos 12) -ℤ pos (length decimal.behind)))
+    (scaled (value_on 0 (decimal.before ++ decimal.behind))
+    ((decimal.exponent +ℤ pos 12) -ℤ pos (length decimal.behind)))
 
 -- the bytes are a decimal of so many units of 10^-12
 abbrev pub IsDecimal : List ℕ → ℤ → Type 0

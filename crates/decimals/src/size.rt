@@ -1,5 +1,6 @@
 //! What the digits of a decimal are worth.
-ghost use Rattle.std.specs.Prelude.{◌≡◌, ◌≤◌, ◌+◌, ◌-◌, ◌*◌, ◌<◌, ◌^◌, ◌++◌, take, length, min, pos, ◌+ℤ◌, ◌-ℤ◌};
+ghost use Rattle.std.specs.Prelude.{◌≡◌, ◌≤◌, ◌+◌, ◌-◌, ◌*◌, ◌<◌, ◌^◌, ◌++◌, take, length, min, pos, ◌+ℤ◌};
+ghost use Rattle.std.specs.Prelude.{◌-ℤ◌};
 ghost use Rattle.qroot2.specs.Digits.{AllDigits, value_on as digits_on};
 ghost use Rattle.decimals.specs.Decimal.{scaled, signed, cap};
 ghost use Rattle.decimals.specs.Cutting.{wanted_of};

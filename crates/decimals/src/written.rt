@@ -1,5 +1,5 @@
 //! The text of a decimal, written without memory.
-ghost use Rattle.std.specs.Prelude.{◌≡◌, ◌≤◌, ◌<◌, ◌^◌, ◌++◌, ◌+◌, length};
+ghost use Rattle.std.specs.Prelude.{◌≡◌, ◌≤◌, ◌<◌, ◌^◌, ◌++◌, ◌+◌};
 ghost use Rattle.arrayvec.specs.ArrayVec.{array_vec_len};
 ghost use Rattle.qroot2.specs.Text.{numeral};
 ghost use Rattle.decimals.specs.DecimalText.{decimal_text, size_text, last_digits};

@@ -10,13 +10,14 @@ use Rattle.exact.specs.Plane.{Overlap, SegmentBefore}
 use Rattle.sheet.specs.Pattern.{ExactCrease, ExactPattern, IsKey, IsPattern}
 use Rattle.plane.specs.Order.{segment_cmp}
 use Rattle.plane.specs.Segments.{HasCanonicalEnds, IsHeld}
-use Rattle.plane.proofs.Orders.{segment_exact, segment_total, segment_less}
+use Rattle.plane.proofs.callers.Orders.{segment_exact, segment_total, segment_less}
 use Rattle.creases.specs.Creases.{Ascends}
 use Rattle.creases.specs.Standing.{AreStanding}
-use Rattle.creases.proofs.callers.Members.{all_of, tied_segments, first_has, later_has, first_or_later, has_or_not, segment_before_trans, segment_not_itself, one_on_segment, first_before, later_ascend}
+use Rattle.creases.proofs.callers.Members.{all_of, tied_segments, has_or_not, segment_before_trans, segment_not_itself, one_on_segment, first_before, later_ascend}
 use Rattle.creases.proofs.callers.Overlaps.{overlap_back, overlap_itself}
 use Rattle.creases.proofs.callers.Standing.{apart_in, held_in, standing_of}
 use Rattle.edits.specs.Beside.{put_before, put_all, leave_one, leave_all, standing, AreBeside}
+use Rattle.chains.proofs.callers.Elements.{head_has, tail_has, has_cases}
 
 -- creases that are left out
 
@@ -32,17 +33,17 @@ left_members g f (x ∷ xs) = by (segment_cmp g.seg x.seg) refl (left_members g 
   where
     kept : x.seg ≢ g.seg → Contains (leave_one g xs) f ↔ (Contains xs f × (f.seg ≢ g.seg)) → Contains (x ∷ leave_one g xs) f ↔ (Contains (x ∷ xs) f × (f.seg ≢ g.seg))
     kept n m = (
-      λ c. elim (first_or_later x f (leave_one g xs) c) [
-        | inl e ↦ (first_has x f xs e, λ s. n (ap (λ (h : ExactCrease). h.seg) e ∙ s))
-        | inr d ↦ (let k = m.0 d in (later_has x f xs k.0, k.1))
+      λ c. elim (has_cases x f (leave_one g xs) c) [
+        | inl e ↦ (head_has x f xs e, λ s. n (ap (λ (h : ExactCrease). h.seg) e ∙ s))
+        | inr d ↦ (let k = m.0 d in (tail_has x f xs k.0, k.1))
       ],
-      λ c. elim (first_or_later x f xs c.0) [ inl e ↦ first_has x f (leave_one g xs) e | inr d ↦ later_has x f (leave_one g xs) (m.1 (d, c.1)) ],
+      λ c. elim (has_cases x f xs c.0) [ inl e ↦ head_has x f (leave_one g xs) e | inr d ↦ tail_has x f (leave_one g xs) (m.1 (d, c.1)) ],
     )
 
     dropped : g.seg ≡ x.seg → Contains (leave_one g xs) f ↔ (Contains xs f × (f.seg ≢ g.seg)) → Contains (leave_one g xs) f ↔ (Contains (x ∷ xs) f × (f.seg ≢ g.seg))
     dropped e m = (
-      λ c. (let k = m.0 c in (later_has x f xs k.0, k.1)),
-      λ c. elim (first_or_later x f xs c.0) [ inl i ↦ absurd (c.1 (ap (λ (h : ExactCrease). h.seg) (sym i) ∙ sym e)) | inr d ↦ m.1 (d, c.1) ],
+      λ c. (let k = m.0 c in (tail_has x f xs k.0, k.1)),
+      λ c. elim (has_cases x f xs c.0) [ inl i ↦ absurd (c.1 (ap (λ (h : ExactCrease). h.seg) (sym i) ∙ sym e)) | inr d ↦ m.1 (d, c.1) ],
     )
 
     by : (r : Ordering) → segment_cmp g.seg x.seg ≡ r → Contains (leave_one g xs) f ↔ (Contains xs f × (f.seg ≢ g.seg))
@@ -56,8 +57,8 @@ all_left_members [] fs f = (λ c. (c, λ g none. absurd (omega (arith, none.1)))
 all_left_members (x ∷ xs) fs f =
     let m = all_left_members xs (leave_one x fs) f in
     let k = left_members x f fs in (
-      λ c. (let a = m.0 c in let b = k.0 a.0 in (b.0, λ g d. elim (first_or_later x g xs d) [ inl e ↦ subst (λ (h : ExactCrease). f.seg ≢ h.seg) e b.1 | inr t ↦ a.1 g t ])),
-      λ c. m.1 (k.1 (c.0, c.1 x (first_has x x xs refl)), λ g d. c.1 g (later_has x g xs d)),
+      λ c. (let a = m.0 c in let b = k.0 a.0 in (b.0, λ g d. elim (has_cases x g xs d) [ inl e ↦ subst (λ (h : ExactCrease). f.seg ≢ h.seg) e b.1 | inr t ↦ a.1 g t ])),
+      λ c. m.1 (k.1 (c.0, c.1 x (head_has x x xs refl)), λ g d. c.1 g (tail_has x g xs d)),
     )
 
 left_ascends : (g : ExactCrease) (fs : List ExactCrease) → Ascends fs → Ascends (leave_one g fs)
@@ -79,16 +80,16 @@ all_left_ascends (x ∷ xs) fs h = all_left_ascends xs (leave_one x fs) (left_as
 
 none_left_out : (g : ExactCrease) (fs : List ExactCrease) → ((f : ExactCrease) → Contains fs f → f.seg ≢ g.seg) → length (leave_one g fs) ≡ length fs
 none_left_out g [] n = refl
-none_left_out g (x ∷ xs) n = by (segment_cmp g.seg x.seg) refl (none_left_out g xs (λ f c. n f (later_has x f xs c)))
+none_left_out g (x ∷ xs) n = by (segment_cmp g.seg x.seg) refl (none_left_out g xs (λ f c. n f (tail_has x f xs c)))
   where
     by : (r : Ordering) → segment_cmp g.seg x.seg ≡ r → length (leave_one g xs) ≡ length xs → length (match_ordering r (x ∷ leave_one g xs) (leave_one g xs) (x ∷ leave_one g xs)) ≡ length (x ∷ xs)
     by o.Less e m = omega (arith, m)
-    by o.Equal e m = absurd (n x (first_has x x xs refl) (sym (segment_exact g.seg x.seg e)))
+    by o.Equal e m = absurd (n x (head_has x x xs refl) (sym (segment_exact g.seg x.seg e)))
     by o.Greater e m = omega (arith, m)
 
 one_left_out : (g : ExactCrease) (fs : List ExactCrease) → Ascends fs → Contains fs g → length (leave_one g fs) + 1 ≡ length fs
 one_left_out g [] h c = absurd (omega (arith, c.1))
-one_left_out g (x ∷ xs) h c = elim (first_or_later x g xs c) [
+one_left_out g (x ∷ xs) h c = elim (has_cases x g xs c) [
   | inl e ↦ here (ap (λ (f : ExactCrease). f.seg) e) (segment_cmp g.seg x.seg) refl
   | inr d ↦ later (one_left_out g xs (later_ascend x xs h) d) (first_before x g xs h d) (segment_cmp g.seg x.seg) refl
 ]
@@ -106,28 +107,28 @@ one_left_out g (x ∷ xs) h c = elim (first_or_later x g xs c) [
 left_length : (gs fs : List ExactCrease) → Ascends gs → Ascends fs → ((f : ExactCrease) → Contains gs f → Contains fs f) → length (leave_all gs fs) + length gs ≡ length fs
 left_length [] fs a h k = omega arith
 left_length (x ∷ xs) fs a h k =
-    let one = one_left_out x fs h (k x (first_has x x xs refl)) in
+    let one = one_left_out x fs h (k x (head_has x x xs refl)) in
     let rest = left_length xs (leave_one x fs) (later_ascend x xs a) (left_ascends x fs h)
-    (λ f c. (left_members x f fs).1 (k f (later_has x f xs c), λ s. segment_not_itself x.seg f.seg (sym s) (first_before x f xs a c))) in
+    (λ f c. (left_members x f fs).1 (k f (tail_has x f xs c), λ s. segment_not_itself x.seg f.seg (sym s) (first_before x f xs a c))) in
     omega (arith, one, rest)
 
 -- creases that are put in
 
 put_members : (f h : ExactCrease) (gs : List ExactCrease) → Contains (put_before f gs) h ↔ ((f ≡ h) ⊎ Contains gs h)
-put_members f h [] = (first_or_later f h [], λ c. elim c [ inl e ↦ first_has f h [] e | inr d ↦ later_has f h [] d ])
+put_members f h [] = (has_cases f h [], λ c. elim c [ inl e ↦ head_has f h [] e | inr d ↦ tail_has f h [] d ])
 put_members f h (g ∷ gs) = by (segment_cmp f.seg g.seg) (put_members f h gs)
   where
     front : Contains (f ∷ g ∷ gs) h ↔ ((f ≡ h) ⊎ Contains (g ∷ gs) h)
-    front = (first_or_later f h (g ∷ gs), λ c. elim c [ inl e ↦ first_has f h (g ∷ gs) e | inr d ↦ later_has f h (g ∷ gs) d ])
+    front = (has_cases f h (g ∷ gs), λ c. elim c [ inl e ↦ head_has f h (g ∷ gs) e | inr d ↦ tail_has f h (g ∷ gs) d ])
 
     by : (r : Ordering) → Contains (put_before f gs) h ↔ ((f ≡ h) ⊎ Contains gs h) → Contains (match_ordering r (f ∷ g ∷ gs) (f ∷ g ∷ gs) (g ∷ put_before f gs)) h ↔ ((f ≡ h) ⊎ Contains (g ∷ gs) h)
     by o.Less m = front
     by o.Equal m = front
     by o.Greater m = (
-      λ c. elim (first_or_later g h (put_before f gs) c) [ inl e ↦ inr (first_has g h gs e) | inr d ↦ elim (m.0 d) [ inl e ↦ inl e | inr k ↦ inr (later_has g h gs k) ] ],
+      λ c. elim (has_cases g h (put_before f gs) c) [ inl e ↦ inr (head_has g h gs e) | inr d ↦ elim (m.0 d) [ inl e ↦ inl e | inr k ↦ inr (tail_has g h gs k) ] ],
       λ c. elim c [
-        | inl e ↦ later_has g h (put_before f gs) (m.1 (inl e))
-        | inr d ↦ elim (first_or_later g h gs d) [ inl e ↦ first_has g h (put_before f gs) e | inr k ↦ later_has g h (put_before f gs) (m.1 (inr k)) ]
+        | inl e ↦ tail_has g h (put_before f gs) (m.1 (inl e))
+        | inr d ↦ elim (has_cases g h gs d) [ inl e ↦ head_has g h (put_before f gs) e | inr k ↦ tail_has g h (put_before f gs) (m.1 (inr k)) ]
       ],
     )
 
@@ -142,14 +143,14 @@ put_length f (g ∷ gs) = by (segment_cmp f.seg g.seg) (put_length f gs)
 
 put_ascends : (f : ExactCrease) (gs : List ExactCrease) → Ascends gs → HasCanonicalEnds f.seg → ((g : ExactCrease) → Contains gs g → HasCanonicalEnds g.seg) → ((g : ExactCrease) → Contains gs g → f.seg ≢ g.seg) → Ascends (put_before f gs)
 put_ascends f [] h k ks n = AllPairs-cons (λ (x y : ExactCrease). SegmentBefore x.seg y.seg) f [] (λ i d l. absurd (omega (arith, l))) h
-put_ascends f (g ∷ gs) h k ks n = by (put_ascends f gs (later_ascend g gs h) k (λ y c. ks y (later_has g y gs c)) (λ y c. n y (later_has g y gs c))) (segment_cmp f.seg g.seg) refl
+put_ascends f (g ∷ gs) h k ks n = by (put_ascends f gs (later_ascend g gs h) k (λ y c. ks y (tail_has g y gs c)) (λ y c. n y (tail_has g y gs c))) (segment_cmp f.seg g.seg) refl
   where
     is_here : HasCanonicalEnds g.seg
-    is_here = ks g (first_has g g gs refl)
+    is_here = ks g (head_has g g gs refl)
 
     front : SegmentBefore f.seg g.seg → Ascends (f ∷ g ∷ gs)
     front b = AllPairs-cons (λ (x y : ExactCrease). SegmentBefore x.seg y.seg) f (g ∷ gs)
-        (all_of (λ (y : ExactCrease). SegmentBefore f.seg y.seg) (g ∷ gs) (λ y c. elim (first_or_later g y gs c) [
+        (all_of (λ (y : ExactCrease). SegmentBefore f.seg y.seg) (g ∷ gs) (λ y c. elim (has_cases g y gs c) [
           | inl e ↦ subst (λ (z : ExactCrease). SegmentBefore f.seg z.seg) e b
           | inr d ↦ segment_before_trans f.seg g.seg y.seg b (first_before g y gs h d)
         ])) h
@@ -164,7 +165,7 @@ put_ascends f (g ∷ gs) h k ks n = by (put_ascends f gs (later_ascend g gs h) k
 
     by : Ascends (put_before f gs) → (r : Ordering) → segment_cmp f.seg g.seg ≡ r → Ascends (match_ordering r (f ∷ g ∷ gs) (f ∷ g ∷ gs) (g ∷ put_before f gs))
     by later o.Less e = front ((segment_less f.seg g.seg k is_here).0 e)
-    by later o.Equal e = absurd (n g (first_has g g gs refl) (segment_exact f.seg g.seg e))
+    by later o.Equal e = absurd (n g (head_has g g gs refl) (segment_exact f.seg g.seg e))
     by later o.Greater e = back later ((segment_less g.seg f.seg is_here k).0 (segment_total.antisymm g.seg f.seg ∙ ap ordering_reverse e))
 
 all_put_members : (gs fs : List ExactCrease) (f : ExactCrease) → Contains (put_all gs fs) f ↔ (Contains gs f ⊎ Contains fs f)
@@ -172,8 +173,8 @@ all_put_members [] fs f = (λ c. inr c, λ c. elim c [ inl none ↦ absurd (omeg
 all_put_members (x ∷ xs) fs f =
     let m = all_put_members xs fs f in
     let k = put_members x f (put_all xs fs) in (
-      λ c. elim (k.0 c) [ inl e ↦ inl (first_has x f xs e) | inr d ↦ elim (m.0 d) [ inl t ↦ inl (later_has x f xs t) | inr t ↦ inr t ] ],
-      λ c. elim c [ inl d ↦ elim (first_or_later x f xs d) [ inl e ↦ k.1 (inl e) | inr t ↦ k.1 (inr (m.1 (inl t))) ] | inr d ↦ k.1 (inr (m.1 (inr d))) ],
+      λ c. elim (k.0 c) [ inl e ↦ inl (head_has x f xs e) | inr d ↦ elim (m.0 d) [ inl t ↦ inl (tail_has x f xs t) | inr t ↦ inr t ] ],
+      λ c. elim c [ inl d ↦ elim (has_cases x f xs d) [ inl e ↦ k.1 (inl e) | inr t ↦ k.1 (inr (m.1 (inl t))) ] | inr d ↦ k.1 (inr (m.1 (inr d))) ],
     )
 
 all_put_length : (gs fs : List ExactCrease) → length (put_all gs fs) ≡ length gs + length fs
@@ -184,10 +185,10 @@ all_put_ascends : (gs fs : List ExactCrease) → Ascends gs → Ascends fs → (
     → ((f g : ExactCrease) → Contains gs f → Contains fs g → f.seg ≢ g.seg) → Ascends (put_all gs fs)
 all_put_ascends [] fs a h k ks n = h
 all_put_ascends (x ∷ xs) fs a h k ks n = put_ascends x (put_all xs fs)
-    (all_put_ascends xs fs (later_ascend x xs a) h (λ f c. k f (later_has x f xs c)) ks (λ f g c d. n f g (later_has x f xs c) d))
-    (k x (first_has x x xs refl))
-    (λ g c. elim ((all_put_members xs fs g).0 c) [ inl d ↦ k g (later_has x g xs d) | inr d ↦ ks g d ])
-    (λ g c. elim ((all_put_members xs fs g).0 c) [ inl d ↦ (λ s. segment_not_itself x.seg g.seg s (first_before x g xs a d)) | inr d ↦ n x g (first_has x x xs refl) d ])
+    (all_put_ascends xs fs (later_ascend x xs a) h (λ f c. k f (tail_has x f xs c)) ks (λ f g c d. n f g (tail_has x f xs c) d))
+    (k x (head_has x x xs refl))
+    (λ g c. elim ((all_put_members xs fs g).0 c) [ inl d ↦ k g (tail_has x g xs d) | inr d ↦ ks g d ])
+    (λ g c. elim ((all_put_members xs fs g).0 c) [ inl d ↦ (λ s. segment_not_itself x.seg g.seg s (first_before x g xs a d)) | inr d ↦ n x g (head_has x x xs refl) d ])
 
 -- what stands
 

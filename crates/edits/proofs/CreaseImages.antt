@@ -8,8 +8,8 @@ use Rattle.sheet.specs.Sheet.{ExactSheet, IsSheet, InSheet, IsWithin, OnBorder}
 use Rattle.geometry.proofs.PointOrder.{before_not_back, same_before, before_same, same_back}
 use Rattle.plane.specs.Corners.{IsEnd, AreOnSide}
 use Rattle.plane.specs.Segments.{HasCanonicalEnds}
-use Rattle.plane.proofs.Crossed.{held}
-use Rattle.plane.proofs.Imaged.{image_only}
+use Rattle.plane.proofs.callers.Crossed.{held}
+use Rattle.plane.proofs.callers.Imaged.{image_only}
 use Rattle.plane.proofs.callers.Sides.{on_one_side, end_moved}
 use Rattle.edits.specs.Mirror.{IsEndImage, IsSegmentImage}
 use Rattle.edits.proofs.StillKeys.{in_moved}

@@ -37,9 +37,6 @@ each_refused Step [] i x ys e lt is h k = absurd (omega (arith, lt))
 each_refused Step (a ∷ rest) zero x ys e lt is h k = inl (subst (λ z. Step z (Err e)) is k)
 each_refused Step (a ∷ rest) (suc i) x ys e lt is h k = inr (h.0, h.1, inl (each_refused Step rest i x h.2.0 e (omega (arith, lt)) is h.2.1 k))
 
-pub each_done : {A B : Type 0} (Step : A → Result B EditBad → Type 0) (xs : List A) (i : ℕ) (ys : List B) → length xs ≤ i → ForEach Step (take i xs) (Ok ys) → ForEach Step xs (Ok ys)
-each_done Step xs i ys le h = subst (λ zs. ForEach Step zs (Ok ys)) (take_all i xs le) h
-
 turn_suc : (ds : List ExactCrease) (i : ℕ) (d : ExactCrease) (creases xs ys : List ExactCrease) → i < length ds → d ≡ get_or ds i d
     → DrawnInTurn (take i ds) creases (Ok xs) → DrawnOne d xs (Ok ys) → DrawnInTurn (take (suc i) ds) creases (Ok ys)
 turn_suc [] i d creases xs ys lt is h k = absurd (omega (arith, lt))
@@ -55,9 +52,6 @@ pub turn_refused : (ds : List ExactCrease) (i : ℕ) (d : ExactCrease) (creases 
 turn_refused [] i d creases xs e lt is h k = absurd (omega (arith, lt))
 turn_refused (a ∷ rest) zero d creases xs e lt is h k = inl (subst (λ z. DrawnOne a z (Err e)) (is_ok xs creases h) (subst (λ z. DrawnOne z xs (Err e)) is k))
 turn_refused (a ∷ rest) (suc i) d creases xs e lt is h k = inr (h.0, h.1, turn_refused rest i d h.0 xs e (omega (arith, lt)) is h.2 k)
-
-pub turn_done : (ds : List ExactCrease) (i : ℕ) (creases xs : List ExactCrease) → length ds ≤ i → DrawnInTurn (take i ds) creases (Ok xs) → DrawnInTurn ds creases (Ok xs)
-turn_done ds i creases xs le h = subst (λ zs. DrawnInTurn zs creases (Ok xs)) (take_all i ds le) h
 
 -- a drawing ends the turn
 pub turn_stopped : (ds : List ExactCrease) (i : ℕ) (d : ExactCrease) (creases xs : List ExactCrease) (e : Stop EditBad) → i < length ds → d ≡ get_or ds i d

@@ -14,9 +14,10 @@ use Rattle.plane.specs.declared.segment.SegBad.TheVariants as bad
 use Rattle.plane.specs.Segments.{HasEnds}
 use Rattle.plane.proofs.callers.Sides.{on_one_side, end_moved, not_end}
 use Rattle.edits.specs.Ends.{Joins, AreJoined}
-use Rattle.edits.proofs.OneEar.{opposite_dir, dir_on, on_parallel}
+use Rattle.edits.proofs.OneEar.{dir_on, on_parallel}
 use Rattle.edits.proofs.RaySides.{dir_apart, opposite_half}
 use Rattle.edits.proofs.HalfAngles.{back}
+use Rattle.geometry.proofs.Leads.{opposite_dir}
 
 -- the one or the other way, a direction leads to later points
 ahead_way : (k : ℕ) → k < 16 → ((k < 5) ⊎ (12 < k)) ⊎ ((back k < 5) ⊎ (12 < back k))

@@ -10,8 +10,8 @@ use Rattle.sheet.specs.declared.mark.Mark.{Mark}
 use Rattle.geometry.proofs.Found.{turn_on}
 use Rattle.geometry.proofs.Lines.{On, on_trans, on_same}
 use Rattle.plane.specs.Images.{IsFoot}
-use Rattle.plane.proofs.Imaged.{aside}
-use Rattle.plane.proofs.Crossed.{held}
+use Rattle.plane.proofs.callers.Imaged.{aside}
+use Rattle.plane.proofs.callers.Crossed.{held}
 use Rattle.edits.specs.CreaseSet.{crease}
 use Rattle.edits.specs.Ends.{Joins, AreJoined}
 use Rattle.edits.specs.Triangles.{IsLeftOf, IsInTriangle, IsOnBisector, IsIncentre, IsFootBetween}
@@ -20,7 +20,7 @@ use Rattle.edits.specs.Foldable.{HasSides, IsFoldable}
 use Rattle.edits.specs.declared.refusal.EditBad.{EditBad}
 use Rattle.edits.specs.declared.refusal.EditBad.TheVariants as bad
 use Rattle.edits.specs.declared.refusal.PointKind.TheVariants as point
-use Rattle.edits.proofs.OneEar.{opposite_dir, one_dir, incentre_one, foot_one, other_way, off_line, beside}
+use Rattle.edits.proofs.OneEar.{one_dir, incentre_one, foot_one, other_way, off_line, beside}
 use Rattle.edits.proofs.HalfAngles.{back}
 use Rattle.edits.proofs.Incentres.{middle_small, off_bisector}
 use Rattle.edits.proofs.InsideSheet.{inside_sheet}
@@ -28,6 +28,7 @@ use Rattle.edits.proofs.FootBetween.{foot_in}
 use Rattle.edits.proofs.EarCreases.{joined_on, joined_dir, ends_back}
 use Rattle.edits.proofs.EarRules.{apart, rules_kept}
 use Rattle.edits.proofs.EarPoints.{even_triangle}
+use Rattle.geometry.proofs.Leads.{opposite_dir}
 
 pub sides_of : (sheet : ExactSheet) (p q r : ExactPoint) → IsFoldable sheet p q r → (i j m : ℕ) × HasSides p q r i j m
 sides_of sheet p q r f =

@@ -7,8 +7,8 @@ use Rattle.geometry.proofs.Found.{turn_on}
 use Rattle.geometry.proofs.Lines.{on_back, on_trans}
 use Rattle.qroot2.specs.Dir.{IsMiddle}
 use Rattle.plane.specs.Sides.{IsOnLine}
-use Rattle.plane.proofs.Imaged.{aside}
-use Rattle.plane.proofs.Crossed.{crossing, crossing_itself}
+use Rattle.plane.proofs.callers.Imaged.{aside}
+use Rattle.plane.proofs.callers.Crossed.{crossing, crossing_itself}
 use Rattle.edits.specs.Triangles.{IsIncentre, IsFootBetween}
 use Rattle.edits.specs.Foldable.{HasSides, HasOddTurn, IsMolecule}
 use Rattle.edits.proofs.OneEar.{dir_on, on_parallel}

@@ -17,9 +17,10 @@ use Rattle.edits.specs.Foldable.{HasSides, HasOddTurn, IsFoldable}
 use Rattle.edits.specs.declared.refusal.EditBad.{EditBad}
 use Rattle.edits.specs.declared.refusal.EditBad.TheVariants as bad
 use Rattle.edits.specs.declared.refusal.PointKind.TheVariants as point
-use Rattle.edits.proofs.OneEar.{opposite_dir, one_dir, AreApart, other_way}
+use Rattle.edits.proofs.OneEar.{one_dir, AreApart, other_way}
 use Rattle.edits.proofs.HalfAngles.{back}
 use Rattle.edits.proofs.EarCreases.{dir_joined}
+use Rattle.geometry.proofs.Leads.{opposite_dir}
 
 one_line : (p q r : ExactPoint) (i : ℕ) → DirOf p q i → IsOnLine p i r ↔ AreOnOneLine p q r
 one_line p q r i h =

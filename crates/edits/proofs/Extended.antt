@@ -18,13 +18,14 @@ use Rattle.edits.specs.Walls.{LeadsInside}
 use Rattle.edits.specs.declared.refusal.EditBad.TheVariants as bad
 use Rattle.edits.specs.declared.refusal.PointKind.TheVariants as point
 use Rattle.edits.specs.declared.sight.Sight.TheVariants as sight
-use Rattle.edits.proofs.OneEar.{opposite_dir, on_parallel}
+use Rattle.edits.proofs.OneEar.{on_parallel}
 use Rattle.edits.proofs.StillKeys.{in_moved}
 use Rattle.edits.proofs.RayPoints.{ray_ordered}
 use Rattle.edits.proofs.RaySides.{dir_apart, leads_on, leads_back, ray_on, ray_back}
 use Rattle.edits.proofs.RayOrder.{Half, half_of, NotAfter}
 use Rattle.edits.proofs.Together.{first_not_along}
 use Rattle.edits.proofs.Exits.{inside_near, not_missed, exit, in_before, inside_on_none, side_not_along}
+use Rattle.geometry.proofs.Leads.{opposite_dir}
 
 -- the start of a ray and one of its points are the ends of a segment
 ray_segment : (k : ℕ) (p q : ExactPoint) → k < 16 → OnRay p k q → (s : ExactSegment) × HasEnds s p q × IsSegment s

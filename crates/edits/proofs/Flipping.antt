@@ -6,11 +6,12 @@ use Rattle.std.proofs.lemmas.List.Elements.{Contains-append_left, Contains-appen
 use Rattle.exact.specs.Plane.{ExactSegment, Overlap, SegmentBefore}
 use Rattle.sheet.specs.Pattern.{ExactCrease, ExactPattern, IsKey, IsPattern, crease_limit}
 use Rattle.creases.specs.Creases.{Ascends}
-use Rattle.pattern.proofs.Fronts.{taken_pattern}
-use Rattle.creases.proofs.callers.Members.{before_last, first_before, first_has, later_ascend, later_has, first_or_later, same_list, segment_not_itself}
+use Rattle.pattern.proofs.callers.Fronts.{taken_pattern}
+use Rattle.creases.proofs.callers.Members.{before_last, first_before, later_ascend, same_list, segment_not_itself}
 use Rattle.edits.specs.Drafts.{with_creases}
 use Rattle.creases.specs.Standing.{AreStanding}
 use Rattle.edits.specs.Flip.{exchanged_crease, flipped}
+use Rattle.chains.proofs.callers.Elements.{head_has, tail_has, has_cases}
 
 within : (xs : List ExactCrease) (i : ℕ) → i < length (flipped xs) → i < length xs
 within xs i lt = subst (λ n. i < n) (length-map xs exchanged_crease) lt
@@ -49,7 +50,7 @@ pub half_start : (xs : List ExactCrease) → AreHalf [] xs xs
 half_start xs f = (λ c. inr c, λ c. elim c [ inl none ↦ absurd (omega (arith, none.1)) | inr d ↦ d ])
 
 pub half_there : (done rest next now : List ExactCrease) (x : ExactCrease) → AreHalf done rest now → rest ≡ x ∷ next → Contains now x
-half_there done rest next now x h e = (h x).1 (inr (subst (λ xs. Contains xs x) (sym e) (first_has x x next refl)))
+half_there done rest next now x h e = (h x).1 (inr (subst (λ xs. Contains xs x) (sym e) (head_has x x next refl)))
 
 behind : (xs ys : List ExactCrease) → Ascends (xs ++ ys) → Ascends ys
 behind [] ys h = h
@@ -79,7 +80,7 @@ module _ (whole : ExactPattern) (done rest next now mid new : List ExactCrease) 
       | inl e ↦ inl (subst (λ xs. Contains xs f) (sym added) (subst (Contains (flipped done ++ exchanged_crease x ∷ [])) (sym e) (Contains-push (flipped done) (exchanged_crease x))))
       | inr m ↦ (let k = (taken f).0 m in elim ((half f).0 k.0) [
         | inl d ↦ inl (subst (λ xs. Contains xs f) (sym added) (Contains-append_left (flipped done) (exchanged_crease x ∷ []) f d))
-        | inr r ↦ elim (first_or_later x f next (subst (λ xs. Contains xs f) more r)) [ inl e ↦ absurd (k.1 (sym e)) | inr d ↦ inr d ]
+        | inr r ↦ elim (has_cases x f next (subst (λ xs. Contains xs f) more r)) [ inl e ↦ absurd (k.1 (sym e)) | inr d ↦ inr d ]
       ])
     ],
     λ c. elim c [
@@ -87,7 +88,7 @@ module _ (whole : ExactPattern) (done rest next now mid new : List ExactCrease) 
         | inl k ↦ (put f).1 (inr ((taken f).1 ((half f).1 (inl k), not_done f k)))
         | inr e ↦ (put f).1 (inl (sym e))
       ]
-      | inr d ↦ (put f).1 (inr ((taken f).1 ((half f).1 (inr (subst (λ xs. Contains xs f) (sym more) (later_has x f next d))), not_next f d)))
+      | inr d ↦ (put f).1 (inr ((taken f).1 ((half f).1 (inr (subst (λ xs. Contains xs f) (sym more) (tail_has x f next d))), not_next f d)))
     ],
   )
 

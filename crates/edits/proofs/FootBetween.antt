@@ -8,7 +8,7 @@ use Rattle.geometry.proofs.RootRing.{plus_zero}
 use Rattle.geometry.proofs.Domain.{above_times, above_not_minus, times_minus, above_not_zero}
 use Rattle.geometry.proofs.Gap.{above_right, in_right}
 use Rattle.geometry.proofs.Lines.{On, on_back, on_from, side_moved, chain, cross_back, weight, weight_above, right_minus, minus_minus, on_same}
-use Rattle.plane.proofs.Imaged.{aside}
+use Rattle.plane.proofs.callers.Imaged.{aside}
 use Rattle.edits.proofs.OneEar.{dir_on, on_parallel}
 use Rattle.edits.proofs.HalfAngles.{axis, back, axis_back}
 use Rattle.edits.proofs.TriangleSides.{det_left, det_right, way_right}

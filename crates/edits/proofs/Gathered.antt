@@ -4,7 +4,7 @@ use Rattle.std.specs.Prelude.{◌↔◌, AllPairs, Contains}
 use Rattle.std.proofs.lemmas.List.Elements.{Contains-get_or, Contains-append_left, Contains-push, Contains-push_cases}
 use Rattle.std.proofs.lemmas.List.Quantifiers.{all_pairs_push}
 use Rattle.sheet.specs.Pattern.{ExactCrease}
-use Rattle.creases.proofs.callers.Members.{first_has, later_has, first_or_later}
+use Rattle.chains.proofs.callers.Elements.{head_has, tail_has, has_cases}
 
 abbrev Other : ExactCrease → ExactCrease → Type 0
 Other f g = f ≢ g
@@ -43,16 +43,16 @@ module _ (Found Wanted : ExactCrease → Type 0) (list rest next : List ExactCre
     members = λ f. (
       λ h. elim ((g.members f).0 h) [
         | inl c ↦ inl (Contains-append_left list (x ∷ []) f c)
-        | inr c ↦ elim (first_or_later x f next (subst (λ xs. Contains xs f) e c.0)) [ inl i ↦ inl (subst (Contains (list ++ x ∷ [])) i (Contains-push list x)) | inr d ↦ inr (d, c.1) ]
+        | inr c ↦ elim (has_cases x f next (subst (λ xs. Contains xs f) e c.0)) [ inl i ↦ inl (subst (Contains (list ++ x ∷ [])) i (Contains-push list x)) | inr d ↦ inr (d, c.1) ]
       ],
       λ c. (g.members f).1 (elim c [
-        | inl d ↦ elim (Contains-push_cases list x f d) [ inl k ↦ inl k | inr i ↦ inr (in_rest f (first_has x f next i), subst Wanted i w) ]
-        | inr d ↦ inr (in_rest f (later_has x f next d.0), d.1)
+        | inl d ↦ elim (Contains-push_cases list x f d) [ inl k ↦ inl k | inr i ↦ inr (in_rest f (head_has x f next i), subst Wanted i w) ]
+        | inr d ↦ inr (in_rest f (tail_has x f next d.0), d.1)
       ]),
     );
-    once = all_pairs_push Other list x g.once (λ k d l i. g.apart (get_or list k d) (Contains-get_or list k d l) (in_rest (get_or list k d) (first_has x (get_or list k d) next (sym i))));
+    once = all_pairs_push Other list x g.once (λ k d l i. g.apart (get_or list k d) (Contains-get_or list k d l) (in_rest (get_or list k d) (head_has x (get_or list k d) next (sym i))));
     later = pairs_later x next rest_later;
-    apart = λ f c d. elim (Contains-push_cases list x f c) [ inl k ↦ g.apart f k (in_rest f (later_has x f next d)) | inr i ↦ first_other x f next rest_later d i ];
+    apart = λ f c d. elim (Contains-push_cases list x f c) [ inl k ↦ g.apart f k (in_rest f (tail_has x f next d)) | inr i ↦ first_other x f next rest_later d i ];
   }
 
   -- the next one is not
@@ -61,13 +61,13 @@ module _ (Found Wanted : ExactCrease → Type 0) (list rest next : List ExactCre
     members = λ f. (
       λ h. elim ((g.members f).0 h) [
         | inl c ↦ inl c
-        | inr c ↦ elim (first_or_later x f next (subst (λ xs. Contains xs f) e c.0)) [ inl i ↦ absurd (n (subst Wanted (sym i) c.1)) | inr d ↦ inr (d, c.1) ]
+        | inr c ↦ elim (has_cases x f next (subst (λ xs. Contains xs f) e c.0)) [ inl i ↦ absurd (n (subst Wanted (sym i) c.1)) | inr d ↦ inr (d, c.1) ]
       ],
-      λ c. (g.members f).1 (elim c [ inl d ↦ inl d | inr d ↦ inr (in_rest f (later_has x f next d.0), d.1) ]),
+      λ c. (g.members f).1 (elim c [ inl d ↦ inl d | inr d ↦ inr (in_rest f (tail_has x f next d.0), d.1) ]),
     );
     once = g.once;
     later = pairs_later x next rest_later;
-    apart = λ f c d. g.apart f c (in_rest f (later_has x f next d));
+    apart = λ f c d. g.apart f c (in_rest f (tail_has x f next d));
   }
 
 pub all_gathered : (Found Wanted : ExactCrease → Type 0) (list rest : List ExactCrease) → AreGathered Found Wanted list rest → rest ≡ [] → (f : ExactCrease) → Contains list f ↔ Found f

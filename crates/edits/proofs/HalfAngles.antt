@@ -9,10 +9,10 @@ use Rattle.geometry.specs.Gap.{num, gx, gy, cross}
 use Rattle.geometry.proofs.Solve.{at, add, mul, opp, solve, times_zero}
 use Rattle.geometry.proofs.Domain.{above_times, above_out, above_count}
 use Rattle.geometry.proofs.Gap.{difference_none, none_difference, above_right}
-use Rattle.geometry.proofs.Directions.{all_below, all_below_at}
 use Rattle.geometry.proofs.Lines.{On, apart_zero, side_moved, weight, weight_above}
-use Rattle.plane.proofs.Imaged.{no_size, cancel_times}
+use Rattle.plane.proofs.callers.Imaged.{no_size, cancel_times}
 use Rattle.edits.proofs.OneEar.{opposite_vector}
+use Rattle.exact.proofs.Turns.{all_below, all_below_at}
 
 abbrev pub root_two : Root
 root_two = record { a = pos 0; b = pos 1 }

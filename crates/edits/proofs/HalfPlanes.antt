@@ -8,7 +8,7 @@ use Rattle.geometry.proofs.Solve.{at, add, mul, opp, solve, zero_plus}
 use Rattle.geometry.proofs.Domain.{above_plus, above_times, above_not_minus, sign_of}
 use Rattle.geometry.proofs.Gap.{dn_above, above_right, out_right, in_right}
 use Rattle.geometry.proofs.Lines.{On, chain, weight, weight_above, on_trans, on_back, on_same, minus_zero}
-use Rattle.plane.proofs.Crossed.{crossing, crossing_itself}
+use Rattle.plane.proofs.callers.Crossed.{crossing, crossing_itself}
 use Rattle.edits.specs.Rays.{OnRay}
 use Rattle.edits.specs.Walls.{LeadsLeft}
 use Rattle.edits.proofs.RayTold.{not_below_zero, not_above_zero}

@@ -6,10 +6,11 @@ use Rattle.geometry.proofs.Lines.{On}
 use Rattle.geometry.proofs.Found.{turn_on}
 use Rattle.qroot2.specs.Dir.{IsAngle, IsMiddle}
 use Rattle.edits.specs.Triangles.{IsOnBisector, IsInTriangle, IsIncentre}
-use Rattle.edits.proofs.OneEar.{opposite_dir, one_dir, on_parallel}
+use Rattle.edits.proofs.OneEar.{one_dir, on_parallel}
 use Rattle.edits.proofs.HalfAngles.{axis, back, axis_back}
 use Rattle.edits.proofs.TriangleSides.{left_cross, det_right}
 use Rattle.edits.proofs.RoundTriangle.{IsCounterclockwise, met, angles, angle_left, turned_down}
+use Rattle.geometry.proofs.Leads.{opposite_dir}
 
 -- the middle of two directions, up to half a turn
 pub middle_axis : (f s k : ℕ) → f < 16 → s < 16 → IsMiddle f s k → k % 8 ≡ axis f s

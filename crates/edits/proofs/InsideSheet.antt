@@ -7,12 +7,12 @@ use Rattle.exact.proofs.Positive.{less_trans}
 use Rattle.exact.proofs.Told.{same_on}
 use Rattle.sheet.specs.Sheet.{ExactSheet, InSheet, IsInside}
 use Rattle.edits.specs.Triangles.{IsInTriangle}
-use Rattle.edits.proofs.OneEar.{opposite_dir}
 use Rattle.edits.proofs.HalfAngles.{back}
 use Rattle.edits.proofs.TriangleSides.{left_cross}
 use Rattle.edits.proofs.RoundTriangle.{IsLeftOfAll}
 use Rattle.edits.proofs.InsideTriangle.{not_beyond}
 use Rattle.edits.proofs.SheetWalls.{low_most, right_most, high_most, left_most}
+use Rattle.geometry.proofs.Leads.{opposite_dir}
 
 pub at_most_trans : (x y z : ExactNumber) → AtMost x y → AtMost y z → AtMost x z
 at_most_trans x y z h k = elim h [

@@ -17,12 +17,6 @@ pub record AreKept (P : ExactCrease → Type 0) (done kept : List ExactCrease) :
   pub ascends : Ascends kept
   pub members : (f : ExactCrease) → Contains kept f ↔ (Contains done f × P f)
 
-pub none_kept : (P : ExactCrease → Type 0) → AreKept P [] []
-none_kept P = record {
-  ascends = λ i j d lt within. absurd (omega (arith, within));
-  members = λ f. (λ c. absurd (omega (arith, c.1)), λ c. c.0);
-}
-
 -- one crease more, which has the property
 pub kept_more : (P : ExactCrease → Type 0) (done kept : List ExactCrease) (f : ExactCrease) → Ascends (done ++ f ∷ []) → AreKept P done kept → P f → AreKept P (done ++ f ∷ []) (kept ++ f ∷ [])
 kept_more P done kept f h w p = record {

@@ -16,7 +16,7 @@ use Rattle.geometry.proofs.Segments.{on_line, ahead, end_on, end_p, end_q}
 use Rattle.geometry.proofs.Found.{along_of, turn_on}
 use Rattle.geometry.proofs.PointOrder.{ordered, before_not_same}
 use Rattle.plane.specs.Sides.{IsSide}
-use Rattle.plane.proofs.Turns.{side_cross}
+use Rattle.plane.proofs.callers.Turns.{side_cross}
 use Rattle.edits.specs.Lefts.{AreLeft}
 use Rattle.edits.specs.Mirror.{IsConcerned}
 

@@ -21,45 +21,21 @@ use Rattle.plane.specs.Segments.{HasEnds}
 use Rattle.plane.specs.Images.{IsImage}
 use Rattle.plane.specs.declared.segment.SegBad.{SegBad}
 use Rattle.plane.specs.declared.segment.SegBad.TheVariants as bad
-use Rattle.plane.proofs.Supports.{turn_dn}
-use Rattle.plane.proofs.Imaged.{aside, aside_vector}
+use Rattle.plane.proofs.callers.Supports.{turn_dn}
+use Rattle.plane.proofs.callers.Imaged.{aside, aside_vector, regroup_out, on_gap, gap_same, dn_turn}
 use Rattle.edits.proofs.OneEar.{on_parallel}
 use Rattle.edits.proofs.RaySides.{opposite_half}
 use Rattle.edits.proofs.MirroredVectors.{IsMirrored, is_mirrored, mirrored, mirrored_x, mirrored_y}
+use Rattle.geometry.proofs.Parts.{num_neg, dn_neg}
 
 -- v is as far on the other side as p, straight across
 record IsAcross (k : ℕ) (a p v : ExactPoint) : Type 0 where
   far : times (cross (vector k) a v) (weight p) ≡ minus (times (cross (vector k) a p) (weight v))
   straight : On (vector (aside k)) p v
 
-num_neg : (x : ExactNumber) → num (neg x) ≡ minus (num x)
-unfolding num minus
-num_neg x = refl
-
-dn_neg : (x : ExactNumber) → dn (neg x) ≡ dn x
-unfolding dn
-dn_neg x = refl
-
-dn_turn : (k : ℕ) (a r : ExactPoint) → dn (turn_of a k r) ≡ times (weight a) (weight r)
-unfolding weight
-dn_turn k a r =
-    turn_dn k (away a r)
-    ∙ rw (dn_sub r.x a.x, dn_sub r.y a.y)
-    (solve (dn a.x ∷ dn a.y ∷ dn r.x ∷ dn r.y ∷ []) (mul (mul (at 2) (at 0)) (mul (at 3) (at 1))) (mul (mul (at 0) (at 1)) (mul (at 2) (at 3))) refl)
-
 -- equal products with a number above zero
-cancelled : (x y z : Root) → Above z → times x z ≡ times y z → x ≡ y
-cancelled x y z h e = difference_none x y (
-    out_right (plus x (minus y)) z h (solve (x ∷ y ∷ z ∷ []) (mul (add (at 0) (opp (at 1))) (at 2)) (add (mul (at 0) (at 2)) (opp (mul (at 1) (at 2)))) refl ∙ none_difference _ _ e))
-
-far_of : (cv cp wa wp wv : Root) → Above wa → times cv (times wa wp) ≡ times (minus cp) (times wa wv) → times cv wp ≡ minus (times cp wv)
-far_of cv cp wa wp wv h e = cancelled (times cv wp) (minus (times cp wv)) wa h (
-    solve (cv ∷ wa ∷ wp ∷ []) (mul (mul (at 0) (at 2)) (at 1)) (mul (at 0) (mul (at 1) (at 2))) refl
-    ∙ e
-    ∙ solve (cp ∷ wa ∷ wv ∷ []) (mul (opp (at 0)) (mul (at 1) (at 2))) (mul (opp (mul (at 0) (at 2))) (at 1)) refl)
-
 far_told : (k : ℕ) (a p v : ExactPoint) → Same (turn_of a k v) (neg (turn_of a k p)) → times (cross (vector k) a v) (weight p) ≡ minus (times (cross (vector k) a p) (weight v))
-far_told k a p v s = far_of (cross (vector k) a v) (cross (vector k) a p) (weight a) (weight p) (weight v) (weight_above a) (
+far_told k a p v s = regroup_out (cross (vector k) a v) (cross (vector k) a p) (weight a) (weight p) (weight v) (weight_above a) (
     rw (dn_neg (turn_of a k p), num_neg (turn_of a k p), dn_turn k a p, dn_turn k a v, turn_cross (vector k) a v (vector_whole k), turn_cross (vector k) a p (vector_whole k))
     at (same_num (turn_of a k v) (neg (turn_of a k p)) s))
 
@@ -76,16 +52,6 @@ across_back k a p v h = record {
 }
 
 -- points of one line, seen from a third one
-on_far : (u a q r : ExactPoint) → On u q r → times (cross u a r) (weight q) ≡ times (cross u a q) (weight r)
-on_far u a q r o = chain u a q r ∙ ap (plus (times (cross u a q) (weight r))) (in_right _ (weight a) o.on) ∙ plus_zero _
-
-far_on : (u a q r : ExactPoint) → times (cross u a q) (weight r) ≡ times (cross u a r) (weight q) → On u q r
-far_on u a q r e = record {
-  on = out_right (cross u q r) (weight a) (weight_above a) (
-      cancel_plus (times (cross u q r) (weight a)) (count 0) (times (cross u a q) (weight r))
-      (plus_comm _ _ ∙ sym (chain u a q r) ∙ sym e ∙ sym (zero_plus _)));
-}
-
 -- By numerators: x and y of the axis, m of a direction, the way to p by X and Y, to v by Z and W.
 way_core : (x y mx my X Y Z W p v : Root) → times (plus (times x W) (minus (times y Z))) p ≡ minus (times (plus (times x Y) (minus (times y X))) v)
     → times (plus (times (minus y) W) (minus (times x Z))) p ≡ times (plus (times (minus y) Y) (minus (times x X))) v
@@ -113,7 +79,7 @@ square k = plus (times (num (vector k).x) (num (vector k).x)) (times (num (vecto
 straight_core : (k : ℕ) (a p v : ExactPoint) → k < 16 → On (vector (aside k)) p v
     → times (plus (times (minus (num (vector k).y)) (gy a v)) (minus (times (num (vector k).x) (gx a v)))) (weight p) ≡ times (plus (times (minus (num (vector k).y)) (gy a p)) (minus (times (num (vector k).x) (gx a p)))) (weight v)
 unfolding cross
-straight_core k a p v h o = (let u = aside_vector k h in let e = on_far (vector (aside k)) a p v o in rw (u.0, u.1) at e)
+straight_core k a p v h o = (let u = aside_vector k h in let e = on_gap (vector (aside k)) a p v o in rw (u.0, u.1) at e)
 
 -- how far aside from direction m a point is, and its image from the mirrored direction
 mirrored_way : (k m n : ℕ) (a p v : ExactPoint) (i : IsMirrored k m n) → k < 16 → IsAcross k a p v
@@ -150,9 +116,9 @@ mirrored_on : (k m : ℕ) (a p q v w : ExactPoint) → k < 16 → m < 16 → IsA
 mirrored_on k m a p q v w h l c d o =
     let i = is_mirrored k m h l in
     let n = mirrored k m in
-    far_on (vector n) a v w (cancelled_by _ _ i.stretch (times (weight p) (weight q)) i.some (above_times _ _ (weight_above p) (weight_above q)) (
+    gap_same (vector n) a v w (cancelled_by _ _ i.stretch (times (weight p) (weight q)) i.some (above_times _ _ (weight_above p) (weight_above q)) (
     ends_core i.stretch i.square (square k) (cross (vector m) a p) (cross (vector m) a q) (cross (vector n) a v) (cross (vector n) a w) (weight p) (weight q) (weight v) (weight w)
-    (mirrored_way k m n a p v i h c) (mirrored_way k m n a q w i h d) (on_far (vector m) a p q o)))
+    (mirrored_way k m n a p v i h c) (mirrored_way k m n a q w i h d) (on_gap (vector m) a p q o)))
 
 -- two points that have one image are one
 one_before : (k : ℕ) (a p q v w : ExactPoint) → k < 16 → IsAcross k a p v → IsAcross k a q w → SamePoint v w → SamePoint p q

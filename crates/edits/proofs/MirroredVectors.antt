@@ -7,17 +7,9 @@ use Rattle.geometry.specs.Root.{Root, plus, times, minus, count, size}
 use Rattle.geometry.specs.Gap.{num, gx, gy}
 use Rattle.geometry.proofs.RootRing.{both}
 use Rattle.geometry.proofs.Gap.{difference_none}
-use Rattle.geometry.proofs.Directions.{all_below, all_below_at}
 use Rattle.plane.specs.Images.{AreTurned, IsImage}
-use Rattle.plane.proofs.Imaged.{image_of, image_self, turned_x, turned_y}
-
-no_size : (x : Root) → size x ≡ 0 → x ≡ count 0
-unfolding count
-no_size x e = both x (count 0) (abs_zero x.a (omega arith)) (abs_zero x.b (omega arith))
-  where
-    abs_zero : (z : ℤ) → unsigned_abs z ≡ 0 → z ≡ pos 0
-    abs_zero (pos n) e = ap pos e
-    abs_zero (negsuc n) e = absurd (omega arith)
+use Rattle.plane.proofs.callers.Imaged.{image_of, image_self, turned_x, turned_y, tested, no_size}
+use Rattle.exact.proofs.Turns.{all_below, all_below_at}
 
 zero_size : size (count 0) ≡ 0
 unfolding count
@@ -45,12 +37,9 @@ turned_tested : all_below 16 turned_test ≡ true
 unfolding turned_test num plus times minus count
 turned_tested = refl
 
-two_tests : (m n : ℕ) → cond (eqb m 0) (eqb n 0) false ≡ true → (m ≡ 0) × (n ≡ 0)
-two_tests m n e = (grind (arith, nat_tests), grind (arith, nat_tests))
-
 turned : (k : ℕ) → k < 16 → AreTurned k (cosine k) (sine k)
 unfolding turned_test
-turned k h = (let t = two_tests _ _ (all_below_at 16 turned_test turned_tested k h) in record { along = equal_of _ _ t.0; across = equal_of _ _ t.1 })
+turned k h = (let t = tested _ _ (all_below_at 16 turned_test turned_tested k h) in record { along = equal_of _ _ t.0; across = equal_of _ _ t.1 })
 
 -- each point has an image in each axis
 pub some_image : (k : ℕ) (a p : ExactPoint) → k < 16 → (v : ExactPoint) × IsImage a k p v

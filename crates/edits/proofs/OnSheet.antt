@@ -29,11 +29,5 @@ ends_on p q r e h = subst (λ s. EndsOf s p q r) e h
 pub ear_on : {given sheet : ExactSheet} (m : Mark) (p q r : ExactPoint) (answer : Result (List ExactCrease) EditBad) → given ≡ sheet → EarOf given m p q r answer → EarOf sheet m p q r answer
 ear_on m p q r answer e h = subst (λ s. EarOf s m p q r answer) e h
 
-pub lines_on : {given sheet : ExactSheet} (xs : List ExactCrease) (answer : Result (List ExactCrease) EditBad) → given ≡ sheet → LinesOf given xs answer → LinesOf sheet xs answer
-lines_on xs answer e h = subst (λ s. LinesOf s xs answer) e h
-
-pub key_on : {given sheet : ExactSheet} (s : ExactSegment) → given ≡ sheet → IsKey given s → IsKey sheet s
-key_on s e h = subst (λ x. IsKey x s) e h
-
 pub keys_on : {given sheet : ExactSheet} (xs : List ExactCrease) → given ≡ sheet → All (λ f. IsKey given f.seg) xs → All (λ f. IsKey sheet f.seg) xs
 keys_on xs e h = subst (λ x. All (λ (f : ExactCrease). IsKey x f.seg) xs) e h

@@ -7,8 +7,8 @@ use Rattle.sheet.specs.Pattern.{ExactCrease, ExactPattern}
 use Rattle.sheet.specs.declared.colour.Colour.{Colour}
 use Rattle.geometry.proofs.PointOrder.{before_not_back, same_before, before_same}
 use Rattle.qroot2.specs.Dir.{IsMiddle}
-use Rattle.plane.proofs.Imaged.{image_only}
-use Rattle.plane.proofs.Orders.{point_unique}
+use Rattle.plane.proofs.callers.Imaged.{image_only}
+use Rattle.plane.proofs.callers.Orders.{point_unique}
 use Rattle.edits.specs.Rules.{Gives, Then}
 use Rattle.edits.specs.CreaseSet.{AreCreases}
 use Rattle.edits.specs.Drawn.{IsLeft, StandsAfter, Counted, DrawnOne, DrawnInTurn}

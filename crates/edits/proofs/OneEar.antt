@@ -18,14 +18,15 @@ use Rattle.geometry.proofs.Found.{one_along, turn_on}
 use Rattle.geometry.proofs.PointOrder.{ordered, same_back}
 use Rattle.qroot2.specs.Dir.{IsMiddle}
 use Rattle.plane.specs.Images.{IsFoot}
-use Rattle.plane.proofs.Imaged.{aside, aside_vector, not_along}
-use Rattle.plane.proofs.Orders.{point_unique}
+use Rattle.plane.proofs.callers.Imaged.{aside, aside_vector, not_along}
+use Rattle.plane.proofs.callers.Orders.{point_unique}
 use Rattle.edits.specs.CreaseSet.{crease}
 use Rattle.edits.specs.Ends.{Joins}
 use Rattle.edits.specs.Triangles.{IsOnBisector, IsLeftOf, IsInTriangle, IsIncentre, IsFootBetween}
 use Rattle.edits.specs.RabbitEar.{IsEar, EarOf, marked, countermarked}
 use Rattle.edits.proofs.OneAnswer.{HasOneAnswer, gives_one, unless_one}
 use Rattle.edits.proofs.OneDrawing.{joins_one, middle_one}
+use Rattle.geometry.proofs.Leads.{back_core, back_number, opposite_dir}
 
 -- the vector of the opposite direction
 pub opposite_vector : (k : ℕ) → k < 16 → (num (vector ((k + 8) % 16)).x ≡ minus (num (vector k).x)) × (num (vector ((k + 8) % 16)).y ≡ minus (num (vector k).y))
@@ -37,30 +38,6 @@ opposite_vector k h =
     subst (λ m. (num (vector m).x ≡ minus (num (vector k).x)) × (num (vector m).y ≡ minus (num (vector k).y))) e (second.0 ∙ ap minus first.1, second.1 ∙ first.0)
 
 -- from Q/q to P/p, where Q/q is T/t times V away from P/p
-back_core : (P p Q q T t V v : Root) → times (plus (times Q p) (minus (times P q))) (times t v) ≡ times (times T V) (times q p) → times (plus (times P q) (minus (times Q p))) (times t v) ≡ times (times T (minus V)) (times p q)
-back_core P p Q q T t V v h =
-    solve (P ∷ p ∷ Q ∷ q ∷ t ∷ v ∷ []) (mul (add (mul (at 0) (at 3)) (opp (mul (at 2) (at 1)))) (mul (at 4) (at 5))) (opp (mul (add (mul (at 2) (at 1)) (opp (mul (at 0) (at 3)))) (mul (at 4) (at 5)))) refl
-    ∙ ap minus h
-    ∙ solve (p ∷ q ∷ T ∷ V ∷ []) (opp (mul (mul (at 2) (at 3)) (mul (at 1) (at 0)))) (mul (mul (at 2) (opp (at 3))) (mul (at 0) (at 1))) refl
-
-back_number : (p q t v w : ExactNumber) → num w ≡ minus (num v) → dn w ≡ dn v → Same (sub q p) (mul_exact t v) → Same (sub p q) (mul_exact t w)
-back_number p q t v w e f h = num_same (sub p q) (mul_exact t w) (
-    rw (num_sub p q, dn_sub p q, num_mul t w, dn_mul t w, e, f)
-    (back_core (num p) (dn p) (num q) (dn q) (num t) (dn t) (num v) (dn v) (rw (num_sub q p, dn_sub q p, num_mul t v, dn_mul t v) at (same_num (sub q p) (mul_exact t v) h))))
-
-pub opposite_dir : (p q : ExactPoint) (k : ℕ) → k < 16 → DirOf p q k → DirOf q p ((k + 8) % 16)
-opposite_dir p q k small h =
-    let o = opposite_vector k small in
-    let w = vector_whole k in
-    let z = vector_whole ((k + 8) % 16) in (
-      h.0,
-      h.1,
-      record {
-        x = back_number p.x q.x h.0 (vector k).x (vector ((k + 8) % 16)).x o.0 (dn_one _ z.x ∙ sym (dn_one _ w.x)) h.2.x;
-        y = back_number p.y q.y h.0 (vector k).y (vector ((k + 8) % 16)).y o.1 (dn_one _ z.y ∙ sym (dn_one _ w.y)) h.2.y;
-      },
-    )
-
 -- two points that are not one have one direction
 pub one_dir : (p q : ExactPoint) (i j : ℕ) → ¬ SamePoint p q → i < 16 → j < 16 → DirOf p q i → DirOf p q j → i ≡ j
 one_dir p q i j apart si sj h l = elim (ordered p q) [

@@ -4,7 +4,7 @@ use Rattle.std.specs.Prelude.{Contains}
 use Rattle.std.proofs.lemmas.List.Elements.{All-contains}
 use Rattle.sheet.specs.Pattern.{ExactCrease}
 use Rattle.plane.specs.Segments.{HasCanonicalEnds}
-use Rattle.plane.proofs.Orders.{point_unique}
+use Rattle.plane.proofs.callers.Orders.{point_unique}
 use Rattle.creases.proofs.callers.Members.{same_list}
 use Rattle.edits.specs.CreaseSet.{SameCrease, AreCreases}
 

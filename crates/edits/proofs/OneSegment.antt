@@ -13,7 +13,7 @@ use Rattle.geometry.proofs.PointOrder.{before_not_back, before_later}
 use Rattle.geometry.proofs.Segments.{on_line, on_seg, end_on, end_p, end_q, ahead, within}
 use Rattle.geometry.proofs.Parts.{det_turned}
 use Rattle.plane.specs.Sides.{IsOnLine}
-use Rattle.plane.proofs.Crossed.{crossing, crossing_itself}
+use Rattle.plane.proofs.callers.Crossed.{crossing, crossing_itself}
 use Rattle.edits.specs.Rays.{OnRay, RunsAlong, MeetsRay}
 use Rattle.edits.specs.Sights.{Sees}
 use Rattle.edits.specs.declared.sight.Sight.TheVariants as sight

@@ -58,12 +58,6 @@ ray_to_same k a b c small h s = elim (half_of k) [
   | Half.leads_back low high ↦ (let x = (ray_back a b k low high).0 h in (ray_back a c k low high).1 (on_trans (vector k) a b c x.0 (on_same (vector k) b c s), same_before b c a s x.1))
 ]
 
-pub same_to_ray : (k : ℕ) (a b c : ExactPoint) → k < 16 → SamePoint a b → OnRay b k c → OnRay a k c
-same_to_ray k a b c small s h = elim (half_of k) [
-  | Half.leads_on half ↦ (let x = (ray_on b c k small half).0 h in (ray_on a c k small half).1 (on_trans (vector k) a b c (on_same (vector k) a b s) x.0, same_before b a c (same_back a b s) x.1))
-  | Half.leads_back low high ↦ (let x = (ray_back b c k low high).0 h in (ray_back a c k low high).1 (on_trans (vector k) a b c (on_same (vector k) a b s) x.0, before_same c b a (same_back a b s) x.1))
-]
-
 pub ray_not_itself : (k : ℕ) (a : ExactPoint) → k < 16 → ¬ OnRay a k a
 ray_not_itself k a small h = dir_apart a a k small h (same_itself a)
 

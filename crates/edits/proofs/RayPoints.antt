@@ -8,7 +8,7 @@ use Rattle.geometry.specs.Gap.{num, dn}
 use Rattle.geometry.proofs.Solve.{at, add, mul, opp, solve}
 use Rattle.geometry.proofs.Gap.{dn_above, num_mul, dn_mul, dn_sub, num_sub, same_num, num_same, less_num, same_sub, out_right, in_right}
 use Rattle.geometry.proofs.Parts.{num_positive}
-use Rattle.plane.proofs.Imaged.{cancel_times}
+use Rattle.plane.proofs.callers.Imaged.{cancel_times}
 use Rattle.edits.specs.Rays.{OnRay}
 
 -- A/a and B/b are T/t and U/u times V/v away from P/p: then they are the difference apart

@@ -13,7 +13,8 @@ use Rattle.geometry.proofs.Directions.{Unit_at, vector_whole, unit_at, right_hal
 use Rattle.geometry.proofs.Parts.{way}
 use Rattle.geometry.proofs.PointOrder.{ordered}
 use Rattle.edits.specs.Rays.{OnRay}
-use Rattle.edits.proofs.OneEar.{opposite_dir, dir_on, on_parallel}
+use Rattle.edits.proofs.OneEar.{dir_on, on_parallel}
+use Rattle.geometry.proofs.Leads.{opposite_dir}
 
 none_left : (d t v : ExactNumber) → Above (num t) → Same d (mul_exact t v) → num d ≡ count 0 → num v ≡ count 0
 none_left d t v h s g = zero_out (num t) (num v) h (sym (num_mul t v) ∙ out_right (num (mul_exact t v)) (dn d) (dn_above d) (sym (same_num d (mul_exact t v) s) ∙ in_right (num d) (dn (mul_exact t v)) g))

@@ -12,8 +12,8 @@ use Rattle.geometry.proofs.Solve.{none, opp, solve}
 use Rattle.geometry.proofs.Domain.{above_not_zero, above_not_minus}
 use Rattle.geometry.proofs.Lines.{On}
 use Rattle.plane.specs.Sides.{IsSide}
-use Rattle.plane.proofs.Turns.{side_cross}
-use Rattle.plane.proofs.Crossed.{det_told}
+use Rattle.plane.proofs.callers.Turns.{side_cross}
+use Rattle.plane.proofs.callers.Crossed.{det_told}
 use Rattle.edits.specs.Rays.{OnRay}
 use Rattle.edits.specs.Walls.{FirstIsPlus}
 use Rattle.edits.proofs.OneEar.{dir_on}

@@ -9,7 +9,8 @@ use Rattle.creases.specs.Standing.{AreStanding}
 -- a crease put before the first whose segment is above its own
 abbrev pub put_before : ExactCrease → List ExactCrease → List ExactCrease
 put_before f [] = f ∷ []
-put_before f (g ∷ gs) = match_ordering (segment_cmp f.seg g.seg) (f ∷ g ∷ gs) (f ∷ g ∷ gs) (g ∷ put_before f gs)
+put_before f (g ∷ gs) = match_ordering (segment_cmp f.seg g.seg) (f ∷ g ∷ gs) (f ∷ g ∷ gs)
+    (g ∷ put_before f gs)
 
 abbrev pub put_all : List ExactCrease → List ExactCrease → List ExactCrease
 put_all [] fs = fs
@@ -18,7 +19,8 @@ put_all (g ∷ gs) fs = put_before g (put_all gs fs)
 -- the creases that are not on the segment of this one
 abbrev pub leave_one : ExactCrease → List ExactCrease → List ExactCrease
 leave_one g [] = []
-leave_one g (f ∷ fs) = match_ordering (segment_cmp g.seg f.seg) (f ∷ leave_one g fs) (leave_one g fs) (f ∷ leave_one g fs)
+leave_one g (f ∷ fs) = match_ordering (segment_cmp g.seg f.seg) (f ∷ leave_one g fs) (leave_one g fs)
+    (f ∷ leave_one g fs)
 
 abbrev pub leave_all : List ExactCrease → List ExactCrease → List ExactCrease
 leave_all [] fs = fs
@@ -35,4 +37,5 @@ pub record AreBeside (old : ExactPattern) (gone come : List ExactCrease) : Type 
   pub come_apart : AreStanding come
   pub there : (f : ExactCrease) → Contains gone f → Contains old.creases f
   pub fresh : (f : ExactCrease) → Contains come f → ¬ Contains old.creases f
-  pub free : (f g : ExactCrease) → Contains come f → Contains old.creases g → (¬ Contains gone g) → ¬ Overlap g.seg f.seg
+  pub free : (f g : ExactCrease) → Contains come f → Contains old.creases g → (¬ Contains gone g)
+      → ¬ Overlap g.seg f.seg

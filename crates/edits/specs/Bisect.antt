@@ -14,7 +14,8 @@ use Rattle.edits.specs.declared.refusal.EditBad.TheVariants as bad
 abbrev pub HasRay : ExactPattern → ExactPoint → ℕ → Type 0
 HasRay pattern at k = (s : ExactSegment) × IsSideOrCrease pattern s × RunsAlong at k s
 
--- the extension in the direction halfway counterclockwise from the first direction to the second, a full turn where they are equal
+-- the extension in the direction halfway counterclockwise from the first direction to the second, a
+-- full turn where they are equal
 abbrev pub Bisector : ExactPattern → ExactPoint → ℕ → ℕ → Result ExactSegment EditBad → Type 0
 Bisector pattern at first second =
     Unless (¬ InSheet pattern.sheet at) bad.Outside

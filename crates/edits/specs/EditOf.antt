@@ -18,15 +18,16 @@ use Rattle.edits.specs.declared.edit.Edit.TheVariants as edit
 use Rattle.edits.specs.declared.refusal.EditBad.{EditBad}
 use Rattle.edits.specs.declared.refusal.EditBad.TheVariants as bad
 
--- What the edit makes of the creases of a pattern, or its first broken rule, but for that of no change. Where several
--- creases are drawn, all are found and tested before the first is drawn.
+-- What the edit makes of the creases of a pattern, or its first broken rule, but for that of no
+-- change. Where several creases are drawn, all are found and tested before the first is drawn.
 abbrev pub Edited : ExactPattern → Edit → Result (List ExactCrease) EditBad → Type 0
 Edited old (edit.Draw c from to) = Then (EndsOf old.sheet from to) (λ s. DrawnOne (crease s c) old.creases)
 Edited old (edit.Erase from to) = Then (EndsOf old.sheet from to) (λ s. Erased old.creases s)
 Edited old (edit.Recolour c from to) = Then (EndsOf old.sheet from to) (λ s. Recoloured old.creases s c)
 Edited old edit.Flip = Gives (λ after. after ≡ flipped old.creases)
 Edited old (edit.Extend c at k) = Then (Extension old at k) (λ s. DrawnOne (crease s c) old.creases)
-Edited old (edit.Bisect c at first second) = Then (Bisector old at first second) (λ s. DrawnOne (crease s c) old.creases)
+Edited old (edit.Bisect c at first second) = Then (Bisector old at first second)
+    (λ s. DrawnOne (crease s c) old.creases)
 Edited old (edit.Mirror at k) = Then (MirrorImages old at k) (λ images. DrawnInTurn images old.creases)
 Edited old (edit.RabbitEar m p q r) = Then (EarOf old.sheet m p q r) (λ ear. DrawnInTurn ear old.creases)
 Edited old (edit.Lines given) = Then (LinesOf old.sheet given) (λ lines. DrawnInTurn lines old.creases)

@@ -14,4 +14,5 @@ IsBare creases s = (f : ExactCrease) → Contains creases f → ¬ Overlap f.seg
 
 -- what is left beside s, where some crease overlaps s
 abbrev pub Erased : List ExactCrease → ExactSegment → Result (List ExactCrease) EditBad → Type 0
-Erased creases s = Unless (IsBare creases s) bad.NoCrease (Then (Gives (AreCreases (IsLeft creases s))) Counted)
+Erased creases s = Unless (IsBare creases s) bad.NoCrease
+    (Then (Gives (AreCreases (IsLeft creases s))) Counted)

@@ -18,10 +18,13 @@ MissesInside sheet at k = NearStart at k (λ r. ¬ IsInside sheet r)
 abbrev pub IsCovered : List ExactCrease → ExactPoint → ℕ → Type 0
 IsCovered creases at k = (s : ExactSegment) × IsCrease creases s × RunsAlong at k s
 
--- The ray meets a side or a crease in exactly one point, and that point cannot be held. It may lie behind the first point that the ray meets. A crease has no point outside the sheet, so only the part of the ray in the sheet meets creases.
+-- The ray meets a side or a crease in exactly one point, and that point cannot be held. It may lie
+-- behind the first point that the ray meets. A crease has no point outside the sheet, so only the
+-- part of the ray in the sheet meets creases.
 abbrev pub MeetsOutOfRange : ExactPattern → ExactPoint → ℕ → Type 0
 MeetsOutOfRange pattern at k =
-    (s : ExactSegment) × IsSideOrCrease pattern s × ((v : ExactPoint) × MeetsRay at k s v × (¬ IsPointRepresentable v))
+    (s : ExactSegment) × IsSideOrCrease pattern s
+    × ((v : ExactPoint) × MeetsRay at k s v × (¬ IsPointRepresentable v))
 
 -- e is the first point of the ray on a side or a crease
 pub record IsFirstMet (pattern : ExactPattern) (at : ExactPoint) (k : ℕ) (e : ExactPoint) : Type 0 where

@@ -29,7 +29,8 @@ IsEndImage at k s v = IsImage at k s.p v ⊎ IsImage at k s.q v
 -- u is the image of s: the segment between the images of its ends
 abbrev pub IsSegmentImage : ExactPoint → ℕ → ExactSegment → ExactSegment → Type 0
 IsSegmentImage at k s u =
-    IsSegment u × ((IsImage at k s.p u.p × IsImage at k s.q u.q) ⊎ (IsImage at k s.p u.q × IsImage at k s.q u.p))
+    IsSegment u × ((IsImage at k s.p u.p × IsImage at k s.q u.q)
+    ⊎ (IsImage at k s.p u.q × IsImage at k s.q u.p))
 
 -- g is the image of f, in its colour
 pub record IsCreaseImage (at : ExactPoint) (k : ℕ) (f g : ExactCrease) : Type 0 where
@@ -46,7 +47,8 @@ ImageOf sheet at k f =
     (Gives (IsCreaseImage at k f))))
 
 -- the images of the creases concerned, in their order
-abbrev pub ImagesOf : ExactSheet → ExactPoint → ℕ → List ExactCrease → Result (List ExactCrease) EditBad → Type 0
+abbrev pub ImagesOf : ExactSheet → ExactPoint → ℕ → List ExactCrease → Result (List ExactCrease) EditBad
+    → Type 0
 ImagesOf sheet at k concerned = Unless (concerned ≡ []) bad.NoCrease (ForEach (ImageOf sheet at k) concerned)
 
 -- what is drawn: the images of all creases that are mirrored

@@ -38,15 +38,19 @@ pub record IsPiece (s : ExactSegment) (t f : ExactCrease) : Type 0 where
   pub canonical : HasCanonicalEnds f.seg
   pub colour : f.colour ≡ t.colour
 
--- t becomes f where it is recoloured along s: it stays whole where it has the new colour, and else what comes from it has ends in lowest terms
+-- t becomes f where it is recoloured along s: it stays whole where it has the new colour, and else
+-- what comes from it has ends in lowest terms
 abbrev pub IsRecoloured : ExactSegment → Colour → ExactCrease → ExactCrease → Type 0
-IsRecoloured s c t f = ((t.colour ≡ c) × (f ≡ t)) ⊎ ((t.colour ≢ c) × ComesFrom t s c f × HasCanonicalEnds f.seg)
+IsRecoloured s c t f = ((t.colour ≡ c) × (f ≡ t))
+    ⊎ ((t.colour ≢ c) × ComesFrom t s c f × HasCanonicalEnds f.seg)
 
 -- t left the creases, and what it becomes came
 abbrev pub Replaced : (ExactCrease → Type 0) → List ExactCrease → ExactCrease → List ExactCrease → Type 0
 Replaced Becomes old t new = (f : ExactCrease) → Contains new f ↔ ((Contains old f × (f ≢ t)) ⊎ Becomes f)
 
 -- all of these left the creases, and what they become came
-abbrev pub AllReplaced : (ExactCrease → ExactCrease → Type 0) → List ExactCrease → List ExactCrease → List ExactCrease → Type 0
+abbrev pub AllReplaced : (ExactCrease → ExactCrease → Type 0) → List ExactCrease → List ExactCrease
+    → List ExactCrease → Type 0
 AllReplaced Becomes old gone new =
-    (f : ExactCrease) → Contains new f ↔ ((Contains old f × (¬ Contains gone f)) ⊎ ((t : ExactCrease) × Contains gone t × Becomes t f))
+    (f : ExactCrease) → Contains new f
+    ↔ ((Contains old f × (¬ Contains gone f)) ⊎ ((t : ExactCrease) × Contains gone t × Becomes t f))

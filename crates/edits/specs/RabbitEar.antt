@@ -33,11 +33,13 @@ AreNotThree p q r = SamePoint p q ⊎ (SamePoint q r ⊎ SamePoint r p)
 abbrev pub AreAllJoined : ExactPoint → ExactPoint → ExactPoint → Type 0
 AreAllJoined p q r = AreJoined p q × AreJoined q r × AreJoined r p
 
--- The corners are on one line, or an angle is odd. What remains are the right isosceles triangles: three even angles with a sum of eight units are 2, 2 and 4.
+-- The corners are on one line, or an angle is odd. What remains are the right isosceles triangles:
+-- three even angles with a sum of eight units are 2, 2 and 4.
 abbrev pub IsNoMolecule : ExactPoint → ExactPoint → ExactPoint → Type 0
 IsNoMolecule p q r = AreOnOneLine p q r ⊎ (IsOddCorner p q r ⊎ (IsOddCorner q r p ⊎ IsOddCorner r p q))
 
--- the four creases: from the corners to the incentre with the mark, and from there to its foot with the other mark
+-- the four creases: from the corners to the incentre with the mark, and from there to its foot with
+-- the other mark
 pub record IsEar (m : Mark) (p q r : ExactPoint) (ear : List ExactCrease) : Type 0 where
   pub centre : ExactPoint
   pub foot : ExactPoint
@@ -45,16 +47,20 @@ pub record IsEar (m : Mark) (p q r : ExactPoint) (ear : List ExactCrease) : Type
   pub foot_is : IsFootBetween p q centre foot
   pub centre_canonical : IsPointCanonical centre
   pub foot_canonical : IsPointCanonical foot
-  pub segments : (a b c d : ExactSegment) × Joins a p centre × Joins b q centre × Joins c r centre × Joins d centre foot
-      × (ear ≡ crease a (marked m) ∷ crease b (marked m) ∷ crease c (marked m) ∷ crease d (countermarked m) ∷ [])
+  pub segments : (a b c d : ExactSegment) × Joins a p centre × Joins b q centre × Joins c r centre
+      × Joins d centre foot
+      × (ear ≡ crease a (marked m) ∷ crease b (marked m) ∷ crease c (marked m) ∷ crease d
+      (countermarked m) ∷ [])
 
 -- the creases of the rabbit ear of a triangle, in the order in which they are drawn
-abbrev pub EarOf : ExactSheet → Mark → ExactPoint → ExactPoint → ExactPoint → Result (List ExactCrease) EditBad → Type 0
+abbrev pub EarOf : ExactSheet → Mark → ExactPoint → ExactPoint → ExactPoint
+    → Result (List ExactCrease) EditBad → Type 0
 EarOf sheet m p q r =
     Unless (¬ (InSheet sheet p × InSheet sheet q × InSheet sheet r)) bad.Outside
     (Unless (AreNotThree p q r) bad.SamePoint
     (Unless (¬ AreAllJoined p q r) bad.NotDirection
     (Unless (IsNoMolecule p q r) bad.NoMolecule
     (Unless ((c : ExactPoint) × IsIncentre p q r c × (¬ IsPointRepresentable c)) (bad.Range point.Incentre)
-    (Unless ((c f : ExactPoint) × IsIncentre p q r c × IsFootBetween p q c f × (¬ IsPointRepresentable f)) (bad.Range point.Foot)
+    (Unless ((c f : ExactPoint) × IsIncentre p q r c × IsFootBetween p q c f × (¬ IsPointRepresentable f))
+    (bad.Range point.Foot)
     (Gives (IsEar m p q r)))))))

@@ -15,7 +15,8 @@ use Rattle.edits.specs.declared.refusal.EditBad.TheVariants as bad
 abbrev pub StaysWhole : ExactSegment → Colour → ExactCrease → Type 0
 StaysWhole s c f = (¬ Overlap f.seg s) ⊎ (f.colour ≡ c)
 
--- f comes from t, which is recoloured along s: a largest part outside s in the old colour, or the common part in the new one
+-- f comes from t, which is recoloured along s: a largest part outside s in the old colour, or the
+-- common part in the new one
 abbrev pub ComesFrom : ExactCrease → ExactSegment → Colour → ExactCrease → Type 0
 ComesFrom t s c f =
     (IsPart f.seg t.seg s × (f.colour ≡ t.colour))
@@ -29,4 +30,5 @@ StandsRecoloured creases s c f =
 
 -- the creases recoloured along s, where some crease overlaps s
 abbrev pub Recoloured : List ExactCrease → ExactSegment → Colour → Result (List ExactCrease) EditBad → Type 0
-Recoloured creases s c = Unless (IsBare creases s) bad.NoCrease (Then (Gives (AreCreases (StandsRecoloured creases s c))) Counted)
+Recoloured creases s c = Unless (IsBare creases s) bad.NoCrease
+    (Then (Gives (AreCreases (StandsRecoloured creases s c))) Counted)

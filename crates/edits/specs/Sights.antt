@@ -19,11 +19,14 @@ pub record IsFirstOf (IsOne : ExactSegment → Type 0) (at : ExactPoint) (k : �
 abbrev pub IsLost : ExactPoint → ℕ → ExactSegment → Type 0
 IsLost at k s = (v : ExactPoint) × MeetsRay at k s v × (¬ IsPointRepresentable v)
 
--- what the ray meets of the segments: one runs along it, or else one is met in a point that cannot be held, or else there is a first point, or none
+-- what the ray meets of the segments: one runs along it, or else one is met in a point that cannot
+-- be held, or else there is a first point, or none
 abbrev pub Sees : ExactPoint → ℕ → (ExactSegment → Type 0) → Sight → Type 0
 Sees at k IsOne Along = (s : ExactSegment) × IsOne s × RunsAlong at k s
-Sees at k IsOne OutOfRange = ((s : ExactSegment) × IsOne s × IsLost at k s) × ((s : ExactSegment) → IsOne s → ¬ RunsAlong at k s)
-Sees at k IsOne (First v) = IsPointCanonical v × IsFirstOf IsOne at k v × ((s : ExactSegment) → IsOne s → ¬ IsLost at k s)
+Sees at k IsOne OutOfRange = ((s : ExactSegment) × IsOne s × IsLost at k s)
+    × ((s : ExactSegment) → IsOne s → ¬ RunsAlong at k s)
+Sees at k IsOne (First v) = IsPointCanonical v × IsFirstOf IsOne at k v
+    × ((s : ExactSegment) → IsOne s → ¬ IsLost at k s)
 Sees at k IsOne Nothing = (r : ExactPoint) → OnRay at k r → ¬ OnOne IsOne r
 
 -- m is one of a and b, and from neither does the direction lead to it

@@ -19,7 +19,8 @@ IsOddCorner corner first second = (i j : ℕ) × AreArms corner first second i j
 
 -- c is on the line through the corner that halves the angle there, an even number of units
 abbrev pub IsOnBisector : ExactPoint → ExactPoint → ExactPoint → ExactPoint → Type 0
-IsOnBisector corner first second c = (i j k : ℕ) × AreArms corner first second i j × IsMiddle i j k × IsOnLine corner k c
+IsOnBisector corner first second c = (i j k : ℕ) × AreArms corner first second i j × IsMiddle i j k
+    × IsOnLine corner k c
 
 -- the three points are on one line
 abbrev pub AreOnOneLine : ExactPoint → ExactPoint → ExactPoint → Type 0

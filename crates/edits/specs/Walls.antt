@@ -17,7 +17,8 @@ FirstIsPlus Plus second = Unit {0}
 
 -- the point is on the left of the line through p in direction j, or on it and direction k leads to the left
 abbrev pub LeadsLeft : ExactPoint → ℕ → ℕ → ExactPoint → Type 0
-LeadsLeft at k j p = Above (cross (vector j) p at) ⊎ ((cross (vector j) p at ≡ count 0) × Above (det (vector j) (vector k)))
+LeadsLeft at k j p = Above (cross (vector j) p at)
+    ⊎ ((cross (vector j) p at ≡ count 0) × Above (det (vector j) (vector k)))
 
 -- it is so for the lines of all four sides: low, right, high, left
 pub record LeadsInside (sheet : ExactSheet) (at : ExactPoint) (k : ℕ) : Type 0 where

@@ -19,7 +19,8 @@ use std::alloc::Global;
 /// `NoChange` where that is the pattern; `NoMemory` where memory for the lists runs out.
 pub(crate) fn changes(alloc: Global, draft: &Draft<'_>) -> Result<Delta, Stop<EditBad>>
     requires { IsPattern (pattern_of draft.now) }
-    ensures changed { IfOk result (λ _. Changed draft.now.pattern draft.now.creases (Ok (pattern_of draft.now))) }
+    ensures changed { IfOk result
+        (λ _. Changed draft.now.pattern draft.now.creases (Ok (pattern_of draft.now))) }
     ensures lists { IfOk result (IsBetween draft.now.pattern.creases draft.now.creases) }
     ensures fits { IfOk result (Fits draft.now.pattern) }
     ensures leads { IfOk result (λ delta. Leads draft.now.pattern delta (pattern_of draft.now)) }

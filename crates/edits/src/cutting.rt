@@ -8,7 +8,8 @@ ghost use Rattle.creases.specs.Standing.{AreStanding};
 ghost use Rattle.edits.specs.Drawn.{IsLeft, Drawn};
 ghost use Rattle.edits.specs.Erase.{IsBare};
 ghost use Rattle.edits.specs.Recolour.{StandsRecoloured};
-ghost use Rattle.edits.specs.Pieces.{IsCut, AreCut, IsFromTo, MayCome, IsPiece, IsRecoloured, Replaced, AllReplaced};
+ghost use Rattle.edits.specs.Pieces.{IsCut, AreCut, IsFromTo, MayCome, IsPiece, IsRecoloured, Replaced};
+ghost use Rattle.edits.specs.Pieces.{AllReplaced};
 
 use crate::draft::Draft;
 use pattern::Crease;
@@ -71,7 +72,8 @@ impl<'a> Draft<'a> {
         colour: Colour,
     ) -> Result<(), NoMemory>
         requires { IsHeld seg.now }
-        ensures recoloured { OnOk result (AreCreases (StandsRecoloured self.old.creases seg.now colour) self.new.creases) }
+        ensures recoloured { OnOk result
+            (AreCreases (StandsRecoloured self.old.creases seg.now colour) self.new.creases) }
         ensures pattern { self.new.pattern ≡ self.old.pattern }
     {
         let overlapped = self.overlapped(alloc, seg)?;
@@ -81,7 +83,8 @@ impl<'a> Draft<'a> {
     /// Takes the creases out that overlap a segment, and puts their parts outside the segment in.
     fn cut_all(&mut self, overlapped: &[Crease], seg: &Seg) -> Result<(), NoMemory>
         requires { AreCut self.old.creases seg.now overlapped.now }
-        ensures cut { OnOk result (AllReplaced (IsPiece seg.now) self.old.creases overlapped.now self.new.creases) }
+        ensures cut { OnOk result
+            (AllReplaced (IsPiece seg.now) self.old.creases overlapped.now self.new.creases) }
         ensures standing { OnOk result (AreStanding self.new.creases) }
         ensures pattern { self.new.pattern ≡ self.old.pattern }
     {
@@ -94,7 +97,8 @@ impl<'a> Draft<'a> {
     /// Takes a crease out that overlaps a segment, and puts its parts outside the segment in.
     fn cut(&mut self, crease: &Crease, seg: &Seg) -> Result<(), NoMemory>
         requires { IsCut self.old.creases crease.now seg.now }
-        ensures cut { OnOk result (Replaced (IsPiece seg.now crease.now) self.old.creases crease.now self.new.creases) }
+        ensures cut { OnOk result
+            (Replaced (IsPiece seg.now crease.now) self.old.creases crease.now self.new.creases) }
         ensures standing { OnOk result (AreStanding self.new.creases) }
         ensures pattern { self.new.pattern ≡ self.old.pattern }
     {
@@ -111,7 +115,8 @@ impl<'a> Draft<'a> {
         colour: Colour,
     ) -> Result<(), NoMemory>
         requires { AreCut self.old.creases seg.now overlapped.now }
-        ensures painted { OnOk result (AllReplaced (IsRecoloured seg.now colour) self.old.creases overlapped.now self.new.creases) }
+        ensures painted { OnOk result
+            (AllReplaced (IsRecoloured seg.now colour) self.old.creases overlapped.now self.new.creases) }
         ensures standing { OnOk result (AreStanding self.new.creases) }
         ensures pattern { self.new.pattern ≡ self.old.pattern }
     {
@@ -124,7 +129,8 @@ impl<'a> Draft<'a> {
     /// Recolours a crease along a segment that it overlaps.
     fn paint(&mut self, crease: &Crease, seg: &Seg, colour: Colour) -> Result<(), NoMemory>
         requires { IsCut self.old.creases crease.now seg.now }
-        ensures painted { OnOk result (Replaced (IsRecoloured seg.now colour crease.now) self.old.creases crease.now self.new.creases) }
+        ensures painted { OnOk result
+            (Replaced (IsRecoloured seg.now colour crease.now) self.old.creases crease.now self.new.creases) }
         ensures standing { OnOk result (AreStanding self.new.creases) }
         ensures pattern { self.new.pattern ≡ self.old.pattern }
     {
@@ -141,7 +147,9 @@ impl<'a> Draft<'a> {
     fn put_part(&mut self, part: Option<Seg>, colour: Colour) -> Result<(), NoMemory>
         requires standing { AreStanding self.old.creases }
         requires may { IfSome part (MayCome self.old.creases) }
-        ensures put { OnOk result ((f : ExactCrease) → Contains self.new.creases f ↔ (Contains self.old.creases f ⊎ IsSomeAnd part (λ u. f ≡ crease_of u colour))) }
+        ensures put { OnOk result
+            ((f : ExactCrease) → Contains self.new.creases f
+            ↔ (Contains self.old.creases f ⊎ IsSomeAnd part (λ u. f ≡ crease_of u colour))) }
         ensures standing { OnOk result (AreStanding self.new.creases) }
         ensures pattern { self.new.pattern ≡ self.old.pattern }
     {

@@ -132,7 +132,9 @@ impl<'a> Draft<'a> {
 /// Those of the creases that are not gone.
 fn left(alloc: Global, creases: Overlapping<'_>, gone: &CreaseMap) -> Result<Vec<Crease>, NoMemory>
     requires { AllPairs (λ f g. f ≢ g) creases }
-    ensures members { IfOk result (λ list. (f : ExactCrease) → Contains list.items f ↔ (Contains creases.entry f × (¬ Contains gone.now f))) }
+    ensures members { IfOk result
+        (λ list. (f : ExactCrease)
+        → Contains list.items f ↔ (Contains creases.entry f × (¬ Contains gone.now f))) }
     ensures once { IfOk result (λ list. AllPairs (λ f g. f ≢ g) list.items) }
 {
     let mut list = Vec::new(alloc);

@@ -1,4 +1,5 @@
-//! What a designer does to a crease pattern: the nine edits, what each makes of a pattern, and why one is refused.
+//! What a designer does to a crease pattern: the nine edits, what each makes of a pattern, and why
+//! one is refused.
 #![tactic(auto)]
 
 mod bisect;

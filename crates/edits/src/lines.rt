@@ -1,5 +1,5 @@
 //! Creases that are given to be drawn, tested before one of them is.
-ghost use Rattle.std.specs.Prelude.{◌≡◌, IfOk, IfErr, All, Ok, Err};
+ghost use Rattle.std.specs.Prelude.{IfOk, IfErr, All, Ok, Err};
 ghost use Rattle.sheet.specs.Pattern.{IsKey};
 ghost use Rattle.edits.specs.Lines.{LineOf, LinesOf};
 

@@ -5,7 +5,8 @@ ghost use Rattle.sheet.specs.Pattern.{IsKey};
 ghost use Rattle.edits.specs.Answers.{Refuses};
 ghost use Rattle.edits.specs.Lefts.{AreLeft};
 ghost use Rattle.edits.specs.Rules.{ForEach};
-ghost use Rattle.edits.specs.Mirror.{AreConcerned, ImageOf, IsConcerned, IsEndImage, IsSegmentImage, MirrorImages};
+ghost use Rattle.edits.specs.Mirror.{AreConcerned, ImageOf, IsConcerned, IsEndImage, IsSegmentImage};
+ghost use Rattle.edits.specs.Mirror.{MirrorImages};
 
 use crate::{EditBad, PointKind};
 use pattern::{Crease, Pattern};
@@ -89,7 +90,8 @@ fn images(
     at: &Point,
     dir: Dir,
 ) -> Result<Vec<Crease>, Stop<EditBad>>
-    ensures ok { IfOk result (λ images. ForEach (ImageOf sheet.now at.now dir) creases.now (Ok images.items)) }
+    ensures ok { IfOk result
+        (λ images. ForEach (ImageOf sheet.now at.now dir) creases.now (Ok images.items)) }
     ensures keys { IfOk result (λ images. All (λ f. IsKey sheet.now f.seg) images.items) }
     ensures err { IfErr result (λ e. Refuses (ForEach (ImageOf sheet.now at.now dir) creases.now) e) }
 {
@@ -128,7 +130,8 @@ fn image_of(sheet: &Sheet, crease: &Crease, at: &Point, dir: Dir) -> Result<Crea
 /// The image of a segment, or None where the image of an end cannot be held.
 fn segment_image(seg: &Seg, at: &Point, dir: Dir) -> Option<Seg>
     ensures some { IfSome result (λ image. IsSegmentImage at.now dir seg.now image) }
-    ensures none { IfNone result ((v : ExactPoint) × IsEndImage at.now dir seg.now v × (¬ IsPointRepresentable v)) }
+    ensures none { IfNone result
+        ((v : ExactPoint) × IsEndImage at.now dir seg.now v × (¬ IsPointRepresentable v)) }
     ensures small { dir < 16 }
 {
     // below 16

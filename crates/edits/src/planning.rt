@@ -37,7 +37,9 @@ use std::alloc::Global;
 /// number; then `NoChange` where the pattern would be the same. `NoMemory` where memory runs out.
 pub fn plan(alloc: Global, pattern: &Pattern, edit: &Edit) -> Result<Delta, Stop<EditBad>>
     ensures fits { IfOk result (Fits pattern.now) }
-    ensures leads { IfOk result (λ delta. (new : ExactPattern) × EditOf pattern.now edit.now (Ok new) × Leads pattern.now delta new × IsBetween pattern.now.creases new.creases delta) }
+    ensures leads { IfOk result
+        (λ delta. (new : ExactPattern) × EditOf pattern.now edit.now (Ok new) × Leads pattern.now delta new
+        × IsBetween pattern.now.creases new.creases delta) }
     ensures refused { IfErr result (λ e. Refuses (EditOf pattern.now edit.now) e) }
 {
     let draft = edited(alloc, pattern, edit)?;

@@ -36,9 +36,11 @@ pub(crate) fn rabbit_ear(
 fn ear_of(sheet: &Sheet, mark: Mark, triangle: &Triangle) -> Result<[Crease; 4], EditBad>
     requires foldable { IsFoldable sheet.now triangle.now.p triangle.now.q triangle.now.r }
     requires sides { HasSides triangle.now.p triangle.now.q triangle.now.r triangle.now.sides.first triangle.now.sides.second triangle.now.sides.third }
-    ensures ok { IfOk result (λ ear. EarOf sheet.now mark triangle.now.p triangle.now.q triangle.now.r (Ok ear)) }
+    ensures ok { IfOk result
+        (λ ear. EarOf sheet.now mark triangle.now.p triangle.now.q triangle.now.r (Ok ear)) }
     ensures keys { IfOk result (λ ear. All (λ f. IsKey sheet.now f.seg) ear) }
-    ensures err { IfErr result (λ e. EarOf sheet.now mark triangle.now.p triangle.now.q triangle.now.r (Err e)) }
+    ensures err { IfErr result
+        (λ e. EarOf sheet.now mark triangle.now.p triangle.now.q triangle.now.r (Err e)) }
 {
     let Some(centre) = triangle.incentre() else {
         return Err(EditBad::Range {

@@ -1,5 +1,5 @@
 //! The triangle of a rabbit ear: whether it can be folded, its incentre and the foot of that.
-ghost use Rattle.std.specs.Prelude.{◌≡◌, ◌≢◌, ◌⊎◌, ℕ, ◌<◌, ◌+◌, ◌%◌, IfOk, IfErr, IfSome, IfNone, IsTrue, ◌↔◌, Err};
+ghost use Rattle.std.specs.Prelude.{◌≡◌, ◌⊎◌, ◌<◌, ◌+◌, ◌%◌, IfOk, IfErr, IfSome, IfNone, IsTrue, ◌↔◌, Err};
 ghost use Rattle.exact.specs.Plane.{ExactPoint, DirOf, IsPointCanonical, IsPointRepresentable};
 ghost use Rattle.sheet.specs.Sheet.{InSheet};
 ghost use Rattle.sheet.specs.declared.mark.Mark.{Mark as AnyMark};
@@ -61,7 +61,8 @@ impl Triangle {
         requires sides { HasSides self.now.p self.now.q self.now.r self.now.sides.first self.now.sides.second self.now.sides.third }
         ensures some { IfSome result (IsIncentre self.now.p self.now.q self.now.r) }
         ensures canonical { IfSome result IsPointCanonical }
-        ensures none { IfNone result ((c : ExactPoint) × IsIncentre self.now.p self.now.q self.now.r c × (¬ IsPointRepresentable c)) }
+        ensures none { IfNone result
+            ((c : ExactPoint) × IsIncentre self.now.p self.now.q self.now.r c × (¬ IsPointRepresentable c)) }
     {
         let first = bisector(self.sides.first, self.sides.third);
         let second = bisector(self.sides.second, self.sides.first);
@@ -73,7 +74,9 @@ impl Triangle {
         requires sides { HasSides self.now.p self.now.q self.now.r self.now.sides.first self.now.sides.second self.now.sides.third }
         ensures some { IfSome result (IsFootBetween self.now.p self.now.q point.now) }
         ensures canonical { IfSome result IsPointCanonical }
-        ensures none { IfNone result ((f : ExactPoint) × IsFootBetween self.now.p self.now.q point.now f × (¬ IsPointRepresentable f)) }
+        ensures none { IfNone result
+            ((f : ExactPoint) × IsFootBetween self.now.p self.now.q point.now f
+            × (¬ IsPointRepresentable f)) }
     {
         let along = self.sides.first;
         cross_lines(&self.p, along, point, along.turn(4))
@@ -184,7 +187,9 @@ fn is_on_line(at: &Point, dir: Dir, point: &Point) -> bool
 
 /// Whether one of the angles of a triangle is an odd number of units.
 fn has_odd_corner(sides: &Sides) -> bool
-    ensures { IsTrue result ↔ (HasOddTurn sides.now.first sides.now.third ⊎ (HasOddTurn sides.now.second sides.now.first ⊎ HasOddTurn sides.now.third sides.now.second)) }
+    ensures { IsTrue result
+        ↔ (HasOddTurn sides.now.first sides.now.third
+        ⊎ (HasOddTurn sides.now.second sides.now.first ⊎ HasOddTurn sides.now.third sides.now.second)) }
 {
     is_odd(sides.first, sides.third)
         || is_odd(sides.second, sides.first)

@@ -12,7 +12,7 @@ tall zero n p q = absurd (omega arith)
 tall (suc m) zero p q = absurd (omega arith)
 tall (suc m) (suc n) p q = omega arith
 
-den_above : (x : ExactNumber) → 0 < den x
+pub den_above : (x : ExactNumber) → 0 < den x
 den_above x = omega arith
 
 den_product : (x z : ExactNumber) → max 1 (den x * den z) ≡ den x * den z

@@ -21,12 +21,6 @@ cmp_above z h = grind (arith, ints)
 cmp_below : (z : ℤ) → z <ℤ pos 0 → int_cmp z (pos 0) ≡ o.Less
 cmp_below z h = grind (arith, ints)
 
-square_pos : (n : ℕ) → signed_square (pos n) ≡ pos (n * n)
-square_pos n = refl
-
-square_neg : (n : ℕ) → signed_square (negsuc n) ≡ neg_ℤ (pos (suc n * suc n))
-square_neg n = refl
-
 some_square : (p q : ℕ) → 0 < p + q → 0 < p * p + 2 * (q * q)
 some_square zero zero h = omega arith
 some_square zero (suc q) h = omega arith
@@ -76,7 +70,7 @@ gap_turned x y d e = is_eq (is_neg (is_sub (is_mul (is_atom x) (is_lit e)) (is_m
 gap_none : (x y : ℤ) → x ≡ y → x -ℤ y ≡ pos 0
 gap_none x y e = rw e (omega (arith, ints))
 
-none_gap : (x y : ℤ) → x -ℤ y ≡ pos 0 → x ≡ y
+pub none_gap : (x y : ℤ) → x -ℤ y ≡ pos 0 → x ≡ y
 none_gap x y e = omega (arith, ints)
 
 pub real_less : (x y : ExactNumber) → Less x y → real_cmp x y ≡ o.Less

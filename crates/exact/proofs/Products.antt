@@ -11,7 +11,7 @@ moved : (a a' b b' : ℤ) → a ≡ a' → b ≡ b' → Positive a' b' → Posit
 moved a a' b b' e f v = rw (e, f) v
 
 -- √2 times a number above zero
-root_times : (a b : ℤ) → Positive a b → Positive (pos 2 *ℤ b) a
+pub root_times : (a b : ℤ) → Positive a b → Positive (pos 2 *ℤ b) a
 root_times (pos p) (pos q) h = elim h [
   | inl x ↦ inl (omega (arith, ints), omega (arith, ints), omega (arith, ints, x.2))
   | inr y ↦ elim y [ inl x ↦ absurd (omega (arith, ints, x.1)) | inr x ↦ absurd (omega (arith, ints, x.0)) ]

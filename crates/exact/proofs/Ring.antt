@@ -1,4 +1,4 @@
-use Rattle.std.specs.Prelude.{◌≡◌, ℕ, ℤ, pos, negsuc, ◌+◌, ◌*◌, ◌≤◌, ◌<◌, ◌+ℤ◌, ◌-ℤ◌, ◌*ℤ◌, ◌<ℤ◌, ◌≤ℤ◌, neg_ℤ}
+use Rattle.std.specs.Prelude.{◌≡◌, ℕ, ℤ, pos, negsuc, ◌+◌, ◌*◌, ◌≤◌, ◌<◌, ◌+ℤ◌, ◌-ℤ◌, ◌*ℤ◌, ◌<ℤ◌, ◌≤ℤ◌, neg_ℤ, unsigned_abs}
 use Rattle.std.proofs.Common.{arith, ap}
 use Rattle.std.proofs.lemmas.Int.{ints}
 use borrow.Author.Differences.{up, down, same_in, sum_is_lem, product_is, neg_is, below_in, at_most_in}
@@ -37,9 +37,6 @@ is_le {a} {b} {p} {n} {q} {m} h k e = at_most_in a b (omega (arith, h.is, k.is))
 pub dist : (a b c : ℤ) → a *ℤ (b +ℤ c) ≡ a *ℤ b +ℤ a *ℤ c
 dist a b c = is_eq (is_mul (is_atom a) (is_add (is_atom b) (is_atom c))) (is_add (is_mul (is_atom a) (is_atom b)) (is_mul (is_atom a) (is_atom c))) (omega arith)
 
-norm_l : ℤ → ℤ → ℤ
-norm_l x y = x *ℤ x -ℤ pos 2 *ℤ (y *ℤ y)
-
 -- norm is multiplicative
 pub norm : (a b c d : ℤ) → (a *ℤ c +ℤ pos 2 *ℤ (b *ℤ d)) *ℤ (a *ℤ c +ℤ pos 2 *ℤ (b *ℤ d)) -ℤ pos 2 *ℤ ((a *ℤ d +ℤ b *ℤ c) *ℤ (a *ℤ d +ℤ b *ℤ c)) ≡ (a *ℤ a -ℤ pos 2 *ℤ (b *ℤ b)) *ℤ (c *ℤ c -ℤ pos 2 *ℤ (d *ℤ d))
 norm a b c d =
@@ -50,10 +47,12 @@ norm a b c d =
     (is_mul (is_sub (is_mul A A) (is_mul two (is_mul B B))) (is_sub (is_mul C C) (is_mul two (is_mul D D))))
     (omega arith)
 
-pub pos_prod : (a b : ℤ) → pos 0 ≤ℤ a → pos 0 ≤ℤ b → pos 0 ≤ℤ (a *ℤ b)
-pos_prod (pos a) (pos b) h k = omega (arith, ints)
-pos_prod (pos a) (negsuc b) h k = absurd (omega (arith, ints))
-pos_prod (negsuc a) b h k = absurd (omega (arith, ints))
-
 pub is_lt : {a b : ℤ} {p n q m : ℕ} → Is a p n → Is b q m → p + m < q + n → a <ℤ b
 is_lt {a} {b} {p} {n} {q} {m} h k e = below_in a b (omega (arith, h.is, k.is))
+
+pub neg_size : (x : ℤ) → unsigned_abs (neg_ℤ x) ≡ unsigned_abs x
+neg_size x = omega (arith, ints)
+
+-- a number against the whole number 0
+pub over_one : (a : ℤ) (n : ℕ) → a *ℤ pos 1 -ℤ pos 0 *ℤ pos n ≡ a
+over_one a n = is_eq (is_sub (is_mul (is_atom a) (is_lit 1)) (is_mul (is_lit 0) (is_lit n))) (is_atom a) (omega arith)

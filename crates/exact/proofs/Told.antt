@@ -1,5 +1,6 @@
 -- What the comparison of values tells, and that the order is strict and of values alone.
 use Rattle.std.proofs.Common.{◌≡◌, refl, sym, ◌∙◌, inl, inr}
+use Rattle.std.specs.Prelude.{Option, Some, IfSome}
 use Rattle.std.specs.declared.cmp.Ordering.{Ordering}
 use Rattle.std.specs.declared.cmp.Ordering.TheVariants as o
 use Rattle.exact.specs.Number.{ExactNumber, Less, Same}
@@ -35,3 +36,7 @@ tells x y = elim (linear x y) [
     | inr h ↦ rw (real_greater x y h) (record { holds = h; alone = λ other a. answered x y other a ∙ real_greater x y h })
   ]
 ]
+
+-- what is said of a number that may be there
+pub some_tells : (P : ExactNumber → Type 0) (o : Option ExactNumber) (x : ExactNumber) → o ≡ Some x → IfSome o P → P x
+some_tells P o x e h = rw e at h

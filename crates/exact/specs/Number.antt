@@ -1,8 +1,10 @@
 -- Exact numbers: the order of the reals on (a + b √2) / d.
-use Rattle.std.specs.Prelude.{◌≡◌, ℕ, ◌*◌, ◌<◌, ◌≤◌, ◌^◌, ◌⊎◌, max, ℤ, pos, ◌+ℤ◌, ◌-ℤ◌, ◌*ℤ◌, ◌<ℤ◌, ◌≤ℤ◌, neg_ℤ, unsigned_abs}
+use Rattle.std.specs.Prelude.{◌≡◌, ℕ, ◌*◌, ◌<◌, ◌≤◌, ◌^◌, ◌⊎◌, max, ℤ, pos, ◌+ℤ◌, ◌-ℤ◌, ◌*ℤ◌, ◌<ℤ◌, ◌≤ℤ◌}
+use Rattle.std.specs.Prelude.{neg_ℤ, unsigned_abs}
 use Rattle.std.specs.Int.{◌∣◌}
 
--- A triple of whole numbers of any size. It stands for (a + b √2) / d, where 0 as d is read as 1, so that each triple stands for a number.
+-- A triple of whole numbers of any size. It stands for (a + b √2) / d, where 0 as d is read as 1,
+-- so that each triple stands for a number.
 pub record ExactNumber : Type 0 where
   pub a : ℤ
   pub b : ℤ

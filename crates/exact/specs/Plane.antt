@@ -1,6 +1,7 @@
 -- Exact points of the plane, the sixteen directions, segments and what they have in common.
 use Rattle.std.specs.Prelude.{◌≡◌, ℕ, zero, suc, ◌+◌, ◌-◌, ◌/◌, ◌%◌, ◌<◌, ◌⊎◌, pos, negsuc}
-use Rattle.exact.specs.Number.{ExactNumber, Same, Less, sub, mul, whole, neg, Positive, IsCanonical, IsRepresentable}
+use Rattle.exact.specs.Number.{ExactNumber, Same, Less, sub, mul, whole, neg, Positive, IsCanonical}
+use Rattle.exact.specs.Number.{IsRepresentable}
 
 pub record ExactPoint : Type 0 where
   pub x : ExactNumber
@@ -46,7 +47,8 @@ vector k = quarters (k / 4) (first_vector (k % 4))
 
 -- q is p and a positive multiple of direction k
 abbrev pub DirOf : ExactPoint → ExactPoint → ℕ → Type 0
-DirOf p q k = (t : ExactNumber) × Positive t.a t.b × SamePoint (away p q) (record { x = mul t (vector k).x; y = mul t (vector k).y })
+DirOf p q k = (t : ExactNumber) × Positive t.a t.b
+    × SamePoint (away p q) (record { x = mul t (vector k).x; y = mul t (vector k).y })
 
 -- a segment, by its lesser and its greater end
 pub record ExactSegment : Type 0 where
@@ -89,8 +91,11 @@ IsPointRepresentable p = IsRepresentable p.x × IsRepresentable p.y
 abbrev pub SegmentBefore : ExactSegment → ExactSegment → Type 0
 SegmentBefore s t = Before s.p t.p ⊎ (SamePoint s.p t.p × Before s.q t.q)
 
--- The turn from direction i to direction j: zero where they are parallel, above zero where j is less than half a turn counterclockwise from i, and below it where j is more.
+-- The turn from direction i to direction j: zero where they are parallel, above zero where j is
+-- less than half a turn counterclockwise from i, and below it where j is more.
 pub record TurnsByAngle (i j : ℕ) : Type 0 where
   pub parallel : (j + 16 - i) % 8 ≡ 0 → IsZero (turn (vector i) (vector j))
-  pub left : 0 < (j + 16 - i) % 16 → (j + 16 - i) % 16 < 8 → Positive (turn (vector i) (vector j)).a (turn (vector i) (vector j)).b
-  pub right : 8 < (j + 16 - i) % 16 → Positive (neg (turn (vector i) (vector j))).a (neg (turn (vector i) (vector j))).b
+  pub left : 0 < (j + 16 - i) % 16 → (j + 16 - i) % 16 < 8
+      → Positive (turn (vector i) (vector j)).a (turn (vector i) (vector j)).b
+  pub right : 8 < (j + 16 - i) % 16
+      → Positive (neg (turn (vector i) (vector j))).a (neg (turn (vector i) (vector j))).b

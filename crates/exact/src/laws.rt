@@ -1,6 +1,6 @@
 //! Laws of exact numbers and of the sixteen directions. Each is a theorem: a function that does
 //! nothing, whose clause says what holds of all exact numbers.
-ghost use Rattle.std.specs.Prelude.{◌≡◌, ◌⊎◌, ◌↔◌, ℕ, ◌<◌};
+ghost use Rattle.std.specs.Prelude.{◌≡◌, ◌⊎◌, ℕ, ◌<◌};
 ghost use Rattle.exact.specs.Order.{HasSide, Tells, real_cmp};
 ghost use Rattle.exact.specs.Number.{ExactNumber, IsCanonical, Same, Less, Positive, add, mul};
 ghost use Rattle.exact.specs.Plane.{TurnsByAngle};

@@ -1,7 +1,7 @@
 -- A subdivision has one FOLD text.
 use Rattle.std.proofs.Common.{◌≡◌, ℕ, List, sym, ap, ◌∙◌}
 use Rattle.subdivide.specs.Subdivision.{ExactSubdivision}
-use Rattle.decimals.proofs.Points.{points_are_one}
+use Rattle.decimals.proofs.callers.Points.{points_are_one}
 use Rattle.foldfile.specs.FoldText.{IsFoldText, fold_text}
 
 pub text_is_one : (s : ExactSubdivision) (text other : List ℕ)

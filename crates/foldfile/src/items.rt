@@ -1,5 +1,5 @@
 //! What stands in the lists of a FOLD text.
-ghost use Rattle.std.specs.Prelude.{◌≡◌, ◌++◌, ◌≤◌, ◌^◌, unsigned_abs, OnOk};
+ghost use Rattle.std.specs.Prelude.{◌≡◌, ◌++◌, unsigned_abs, OnOk};
 ghost use Rattle.qroot2.specs.Text.{numeral, signed_text};
 ghost use Rattle.foldfile.specs.FoldText.{coords_text, ends_text, assignment_text, assignment_letter};
 ghost use Rattle.foldfile.specs.FoldText.{exact_text, triple_text};
@@ -96,7 +96,7 @@ fn put_signed(text: &mut Vec<u8>, number: i64) -> Result<(), AllocError>
 }
 
 /// Appends the digits of a number.
-#[tactic(auto, using(qroot2::proofs::Decimals::numeral_decimal))]
+#[tactic(auto, using(qroot2::proofs::callers::Decimals::numeral_decimal))]
 fn put_numeral(text: &mut Vec<u8>, number: u64) -> Result<(), AllocError>
     ensures { OnOk result (text.new.items ≡ text.old.items ++ numeral number) }
 {

@@ -1,5 +1,5 @@
 //! FOLD text, written.
-ghost use Rattle.std.specs.Prelude.{◌≡◌, IfOk};
+ghost use Rattle.std.specs.Prelude.{IfOk};
 ghost use Rattle.foldfile.specs.FoldText.{IsFoldText};
 
 use crate::items::{Assignment, Coords, Ends, Exact};

@@ -14,6 +14,7 @@ use Rattle.exact.proofs.Order.{root_above, root_below, root_zero}
 use Rattle.geometry.proofs.RootRing.{both}
 use Rattle.geometry.specs.Root.{Root, plus, times, minus, count, size}
 use Rattle.geometry.specs.Gap.{num, det, Ahead, IsWhole}
+use Rattle.exact.proofs.Turns.{all_below, all_below_at}
 
 first_whole : (k : ℕ) → IsWhole (first_vector k)
 first_whole zero = record { x = refl; y = refl }
@@ -27,25 +28,6 @@ quarters_whole (suc n) p w = (let h = quarters_whole n p w in record { x = h.y; 
 
 pub vector_whole : (k : ℕ) → IsWhole (vector k)
 vector_whole k = quarters_whole (k / 4) (first_vector (k % 4)) (first_whole (k % 4))
-
-abbrev pub all_below : ℕ → (ℕ → Bool) → Bool
-all_below zero f = true
-all_below (suc n) f = cond (f n) (all_below n f) false
-
-pub all_below_at : (n : ℕ) (f : ℕ → Bool) → all_below n f ≡ true → (k : ℕ) → k < n → f k ≡ true
-all_below_at zero f e k h = absurd (omega arith)
-all_below_at (suc n) f e k h = elim (cases_order k n) [
-  | inl q ↦ ap f q ∙ first (f n) (all_below n f) e
-  | inr r ↦ elim r [ inl l ↦ all_below_at n f (second (f n) (all_below n f) e) k l | inr g ↦ absurd (omega arith) ]
-]
-  where
-    first : (a b : Bool) → cond a b false ≡ true → a ≡ true
-    first true b e = refl
-    first false b e = absurd (cc)
-
-    second : (a b : Bool) → cond a b false ≡ true → b ≡ true
-    second true b e = e
-    second false b e = absurd (cc)
 
 abbrev turns_test : ℕ → ℕ → Bool
 turns_test k j = cond (eqb (k % 8) (j % 8)) true (ltb 0 (size (det (vector j) (vector k))))

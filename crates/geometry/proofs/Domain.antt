@@ -5,10 +5,11 @@ use Rattle.std.proofs.lemmas.Int.{ints}
 use Rattle.exact.specs.Number.{Positive}
 use Rattle.exact.proofs.Ring.{is_add, is_lit, is_atom, is_mul, is_eq}
 use Rattle.exact.proofs.Root.{side}
-use Rattle.exact.proofs.Positive.{positive_sum, scaled, exclusive}
+use Rattle.exact.proofs.Positive.{positive_sum, scaled, exclusive, from_high, from_low}
 use Rattle.geometry.specs.Root.{Root, plus, times, minus, count, Above}
 use Rattle.geometry.proofs.RootRing.{both, plus_comm, plus_zero, times_comm, times_assoc}
 use Rattle.geometry.proofs.Solve.{at, none, add, mul, opp, solve, times_zero}
+use Rattle.exact.proofs.Products.{root_times as turned}
 
 pub above_plus : (x y : Root) → Above x → Above y → Above (plus x y)
 unfolding plus
@@ -44,34 +45,6 @@ count_times n y p h =
 root : Root
 unfolding count
 root = record { a = pos 0; b = pos 1 }
-
-low_case : (t u : ℕ) → 0 < t → t * t < 2 * (u * u) → Positive (neg_ℤ (pos t)) (pos u)
-low_case t zero p h = absurd (omega arith)
-low_case zero (suc u) p h = absurd (omega arith)
-low_case (suc t) (suc u) p h = inr (inr (omega (arith, ints), omega (arith, ints), omega (arith, ints)))
-
-high_case : (t u : ℕ) → 0 < u → 2 * (u * u) < t * t → Positive (pos t) (neg_ℤ (pos u))
-high_case t zero p h = absurd (omega arith)
-high_case zero (suc u) p h = absurd (omega arith)
-high_case (suc t) (suc u) p h = inr (inl (omega (arith, ints), omega (arith, ints), omega (arith, ints)))
-
-turned : (a b : ℤ) → Positive a b → Positive (pos 2 *ℤ b) a
-turned (pos p) (pos q) h = elim h [
-  | inl x ↦ inl (omega (arith, ints), omega (arith, ints), omega (arith, ints, x.2))
-  | inr y ↦ elim y [ inl x ↦ absurd (omega (arith, ints, x.1)) | inr x ↦ absurd (omega (arith, ints, x.0)) ]
-]
-turned (pos p) (negsuc q) h = elim h [
-  | inl x ↦ absurd (omega (arith, ints, x.1))
-  | inr y ↦ elim y [ inl x ↦ low_case (2 * suc q) p (omega arith) (let big : 2 * (suc q * suc q) < p * p = omega (arith, ints, x.2) in omega (arith, big)) | inr x ↦ absurd (omega (arith, ints, x.0)) ]
-]
-turned (negsuc p) (pos q) h = elim h [
-  | inl x ↦ absurd (omega (arith, ints, x.0))
-  | inr y ↦ elim y [ inl x ↦ absurd (omega (arith, ints, x.0)) | inr x ↦ high_case (2 * q) (suc p) (omega arith) (let big : suc p * suc p < 2 * (q * q) = omega (arith, ints, x.2) in omega (arith, big)) ]
-]
-turned (negsuc p) (negsuc q) h = elim h [
-  | inl x ↦ absurd (omega (arith, ints, x.0))
-  | inr y ↦ elim y [ inl x ↦ absurd (omega (arith, ints, x.0)) | inr x ↦ absurd (omega (arith, ints, x.1)) ]
-]
 
 root_times : (y : Root) → Above y → Above (times root y)
 unfolding times root

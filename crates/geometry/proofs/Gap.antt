@@ -10,14 +10,7 @@ use Rattle.geometry.specs.Gap.{num, dn, gx, gy, cross, Ahead, IsWhole}
 use Rattle.geometry.proofs.RootRing.{both, plus_minus, times_comm, times_one, cancel_plus}
 use Rattle.geometry.proofs.Solve.{at, none, add, mul, opp, solve, times_zero}
 use Rattle.geometry.proofs.Domain.{above_times, above_count, above_out, zero_out}
-
-pub tall : (m n : ℕ) → 0 < m → 0 < n → max 1 (m * n) ≡ m * n
-tall zero n p q = absurd (omega arith)
-tall (suc m) zero p q = absurd (omega arith)
-tall (suc m) (suc n) p q = omega arith
-
-pub den_above : (x : ExactNumber) → 0 < den x
-den_above x = omega arith
+use Rattle.exact.proofs.Kept.{tall, den_above}
 
 pub scale : (x : Root) (n : ℕ) → (let y : Root = record { a = x.a *ℤ pos n; b = x.b *ℤ pos n } in times x (count n) ≡ y)
 unfolding times count

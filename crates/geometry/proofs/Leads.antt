@@ -40,13 +40,13 @@ opposite_vector k h = elim (cases_lt k 8) [
 ]
 
 -- from Q/q to P/p, where Q/q is T/t times V away from P/p
-back_core : (P p Q q T t V v : Root) → times (plus (times Q p) (minus (times P q))) (times t v) ≡ times (times T V) (times q p) → times (plus (times P q) (minus (times Q p))) (times t v) ≡ times (times T (minus V)) (times p q)
+pub back_core : (P p Q q T t V v : Root) → times (plus (times Q p) (minus (times P q))) (times t v) ≡ times (times T V) (times q p) → times (plus (times P q) (minus (times Q p))) (times t v) ≡ times (times T (minus V)) (times p q)
 back_core P p Q q T t V v h =
     solve (P ∷ p ∷ Q ∷ q ∷ t ∷ v ∷ []) (mul (add (mul (at 0) (at 3)) (opp (mul (at 2) (at 1)))) (mul (at 4) (at 5))) (opp (mul (add (mul (at 2) (at 1)) (opp (mul (at 0) (at 3)))) (mul (at 4) (at 5)))) refl
     ∙ ap minus h
     ∙ solve (p ∷ q ∷ T ∷ V ∷ []) (opp (mul (mul (at 2) (at 3)) (mul (at 1) (at 0)))) (mul (mul (at 2) (opp (at 3))) (mul (at 0) (at 1))) refl
 
-back_number : (p q t v w : ExactNumber) → num w ≡ minus (num v) → dn w ≡ dn v → Same (sub q p) (mul_exact t v) → Same (sub p q) (mul_exact t w)
+pub back_number : (p q t v w : ExactNumber) → num w ≡ minus (num v) → dn w ≡ dn v → Same (sub q p) (mul_exact t v) → Same (sub p q) (mul_exact t w)
 back_number p q t v w e f h = num_same (sub p q) (mul_exact t w) (
     rw (num_sub p q, dn_sub p q, num_mul t w, dn_mul t w, e, f)
     (back_core (num p) (dn p) (num q) (dn q) (num t) (dn t) (num v) (dn v) (rw (num_sub q p, dn_sub q p, num_mul t v, dn_mul t v) at (same_num (sub q p) (mul_exact t v) h))))

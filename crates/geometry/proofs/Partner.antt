@@ -8,7 +8,7 @@ use Rattle.geometry.specs.Root.{Root, plus, times, minus, count}
 use Rattle.geometry.specs.Gap.{num, det, norm, signed_as, partner}
 use Rattle.geometry.proofs.RootRing.{both}
 use Rattle.geometry.proofs.Lines.{right_minus}
-use Rattle.geometry.proofs.Directions.{all_below, all_below_at}
+use Rattle.exact.proofs.Turns.{all_below, all_below_at}
 
 flat : ℤ → Root
 flat z = record { a = z; b = pos 0 }

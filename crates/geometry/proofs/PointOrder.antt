@@ -105,9 +105,3 @@ earlier_of a b = elim (ordered a b) [
   | inl l ↦ (a, record { one = inl refl; first = before_not_itself a; second = λ r. before_not_back a b l r })
   | inr r ↦ (b, record { one = inr refl; first = not_past a b r; second = before_not_itself b })
 ]
-
-pub less_not_same : (x y : ExactNumber) → Less x y → Same x y → ⊥
-less_not_same x y h s = let e = real_less x y h in let f = real_equal x y s in cc
-
-pub less_not_back : (x y : ExactNumber) → Less x y → Less y x → ⊥
-less_not_back x y h k = less_not_same x x (less_trans x y x h k) (record { a = refl; b = refl })

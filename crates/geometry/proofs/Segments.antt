@@ -35,7 +35,7 @@ none_common s t k r a b n h = n (on_trans (vector k) s.p r t.p (on_line s k r a 
 within_core : {BCP BPC BCQ BQC P P' Q Q' : Type 0} → BCP ↔ P → BPC ↔ P' → BCQ ↔ Q → BQC ↔ Q' → (BCP → BCQ) → (BQC → BPC) → (¬ ((P × Q) ⊎ (P' × Q'))) ↔ ((¬ BCP) × (¬ BQC))
 within_core cp pc cq qc f g = (λ n. (λ h. n (inl (cp.0 h, cq.0 (f h))), λ h. n (inr (pc.0 (g h), qc.0 h))), λ n h. elim h [ inl l ↦ n.0 (cp.1 l.0) | inr r ↦ n.1 (qc.1 r.1) ])
 
-join : {A B C : Type 0} → A ↔ B → B ↔ C → A ↔ C
+pub join : {A B C : Type 0} → A ↔ B → B ↔ C → A ↔ C
 join f g = (λ a. g.0 (f.0 a), λ c. f.1 (g.1 c))
 
 -- above zero from p as from c

@@ -7,25 +7,20 @@ use Rattle.exact.specs.Number.{ExactNumber, IsCanonical, den, sub}
 use Rattle.exact.specs.Plane.{ExactPoint, IsPointCanonical, vector, first_vector, quarters}
 use Rattle.geometry.specs.Root.{Root, plus, times, minus, count, size}
 use Rattle.geometry.specs.Gap.{num, dn, gx, gy, det, norm, partner, signed_as}
-use Rattle.geometry.proofs.Gap.{scale, num_sub, tall, den_above}
+use Rattle.geometry.proofs.Gap.{scale, num_sub}
+use Rattle.exact.proofs.Ring.{neg_size}
+use Rattle.exact.proofs.Kept.{tall, den_above}
 
-sum_size : (x y : ℤ) → unsigned_abs (x +ℤ y) ≤ unsigned_abs x + unsigned_abs y
+pub sum_size : (x y : ℤ) → unsigned_abs (x +ℤ y) ≤ unsigned_abs x + unsigned_abs y
 sum_size x y = omega (arith, ints)
 
 pub size_plus : (x y : Root) → size (plus x y) ≤ size x + size y
 unfolding plus
 size_plus x y = omega (arith, sum_size x.a y.a, sum_size x.b y.b)
 
-neg_size : (x : ℤ) → unsigned_abs (neg_ℤ x) ≡ unsigned_abs x
-neg_size x = omega (arith, ints)
-
 pub size_minus : (x : Root) → size (minus x) ≡ size x
 unfolding minus
 size_minus x = omega (arith, neg_size x.a, neg_size x.b)
-
-pub size_count : (n : ℕ) → size (count n) ≡ n
-unfolding count
-size_count n = omega arith
 
 pub size_times : (x y : Root) → size (times x y) ≤ 2 * (size x * size y)
 unfolding times
@@ -49,35 +44,6 @@ times_within x y m n h k = omega (arith, size_times x y, mul-le (size x) (size y
 
 pub scaled_within : (x : Root) (k m n : ℕ) → size x ≤ m → k ≤ n → size (times x (count k)) ≤ m * n
 scaled_within x k m n h l = omega (arith, size_scaled x k, mul-le (size x) k m n h l)
-
-pub den_within : (x : ExactNumber) → IsCanonical x → den x ≤ 2 ^ 20
-den_within x c = omega (arith, c.d)
-
-pub num_within : (x : ExactNumber) → IsCanonical x → size (num x) ≤ 2 ^ 49
-unfolding num
-num_within x c = omega (arith, c.a, c.b)
-
--- the numerator of a difference
-pub sub_within : (x y : ExactNumber) → IsCanonical x → IsCanonical y → size (num (sub x y)) ≤ 2 ^ 70
-unfolding dn
-sub_within x y c d = rw (num_sub x y) (omega (
-  arith,
-  size_plus (times (num x) (dn y)) (minus (times (num y) (dn x))),
-  size_minus (times (num y) (dn x)),
-  scaled_within (num x) (den y) (2 ^ 49) (2 ^ 20) (num_within x c) (den_within y d),
-  scaled_within (num y) (den x) (2 ^ 49) (2 ^ 20) (num_within y d) (den_within x c),
-))
-
-pub den_sub_within : (x y : ExactNumber) → IsCanonical x → IsCanonical y → den (sub x y) ≤ 2 ^ 40
-den_sub_within x y c d = omega (arith, tall (den x) (den y) (den_above x) (den_above y), mul-le (den x) (den y) (2 ^ 20) (2 ^ 20) (den_within x c) (den_within y d))
-
-pub gx_within : (p r : ExactPoint) → IsPointCanonical p → IsPointCanonical r → size (gx p r) ≤ 2 ^ 110
-unfolding gx dn
-gx_within p r c d = omega (arith, scaled_within (num (sub r.x p.x)) (den (sub r.y p.y)) (2 ^ 70) (2 ^ 40) (sub_within r.x p.x d.0 c.0) (den_sub_within r.y p.y d.1 c.1))
-
-pub gy_within : (p r : ExactPoint) → IsPointCanonical p → IsPointCanonical r → size (gy p r) ≤ 2 ^ 110
-unfolding gy dn
-gy_within p r c d = omega (arith, scaled_within (num (sub r.y p.y)) (den (sub r.x p.x)) (2 ^ 70) (2 ^ 40) (sub_within r.y p.y d.1 c.1) (den_sub_within r.x p.x d.0 c.0))
 
 -- the vectors of directions have small parts
 first_small : (k : ℕ) → (size (num (first_vector k).x) ≤ 2) × (size (num (first_vector k).y) ≤ 2)
@@ -114,11 +80,3 @@ turned_within k x y n h l = (let v = vector_small k in omega (
   times_within (num (vector k).x) y 2 n v.0 l,
   times_within (num (vector k).y) x 2 n v.1 h,
 ))
-
-pub partner_within : (x : Root) → size (partner x) ≡ size x
-unfolding minus
-partner_within x = by (norm x)
-  where
-    by : (z : ℤ) → size (signed_as z (record { a = x.a; b = neg_ℤ x.b })) ≡ size x
-    by (pos n) = omega (arith, neg_size x.b)
-    by (negsuc n) = omega (arith, neg_size x.b, neg_size x.a, neg_size (neg_ℤ x.b))

@@ -1,2 +1,2 @@
+pub mod callers
 pub mod Fronts
-pub mod Steps

@@ -25,6 +25,7 @@ use Rattle.judge.specs.declared.verdict.Verdict.TheVariants as verdict
 use Rattle.judge.specs.declared.fault.Fault.{Fault}
 use Rattle.judge.specs.declared.report.Report.{Report}
 use Rattle.judge.specs.declared.report.Report.TheVariants as report
+use Rattle.subdivide.proofs.callers.FansHeld.{some_is}
 
 -- in the sheet and on no side: strictly inside
 pub inside : (sheet : ExactSheet) (p : ExactPoint) → IsSheet sheet → (InSheet sheet p × (¬ OnSide sheet p)) ↔ IsInside sheet p
@@ -111,9 +112,6 @@ none_below pattern vs = record {
   earlier = λ f c. absurd (omega (arith, c.1));
   all = λ k v why h e f. absurd (omega (arith, h));
 }
-
-some_is : {X : Type 0} {p q : X} → Some p ≡ Some q → p ≡ q
-some_is e = cc
 
 -- the next vertex is a fault
 pub fault_more : (pattern : ExactPattern) (vs : List ExactPoint) (n : ℕ) (v : ExactPoint) (why : Why) (faults : List Fault) → AllPairs Before vs → IsPointCanonical v → slice_get vs n ≡ Some v → TellsFault pattern v (Some why)

@@ -19,6 +19,3 @@ one_sector rays i s t S T =
 pub one_list : (rays : List Ray) (ss ts : List Sector) → AreSectorsOf rays ss → AreSectorsOf rays ts → ss ≡ ts
 one_list rays ss ts S T = let n = S.long in let m = T.long in
     ext_get_or _ ss ts (omega arith) (λ i h. one_sector rays i (sector_at ss i) (sector_at ts i) (S.each i (omega arith)) (T.each i (omega arith)))
-
-pub small_angles : (rays : List Ray) (ss : List Sector) → AreSectorsOf rays ss → (i : ℕ) → i < length ss → (sector_at ss i).angle ≤ 16
-small_angles rays ss S i h = let n = S.long in (S.each i (omega arith)).turn

@@ -1,5 +1,6 @@
--- The two conditions that a vertex must meet to fold flat, on its angles and on its marks. They are not enough.
--- Source: Hull, Origametry; Demaine and O'Rourke, Geometric Folding Algorithms, chapter 12.
+-- The two conditions that a vertex must meet to fold flat, on its angles and on its marks. They are
+-- not enough. Source: Hull, Origametry; Demaine and O'Rourke, Geometric Folding Algorithms, chapter
+-- 12.
 use Rattle.std.specs.Prelude.{◌≡◌, ◌==◌, ℕ, ◌+◌, ◌%◌, ◌⊎◌, List, length}
 use Rattle.std.specs.List.{range_with_len, filter, sum_by}
 use Rattle.layers.specs.declared.star.Ray.{Ray}

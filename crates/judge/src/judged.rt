@@ -19,8 +19,8 @@ use std::marker::{Brand, Model};
 use std::sync::ledger::{Blank, Ledger};
 use subdivide::{CutBad, Live, Plan, Subdivision};
 
-/// A pattern that is kept cut, with the vertices of it that do not fold flat. Contracts see the pattern, which
-/// cutting does not refuse.
+/// A pattern that is kept cut, with the vertices of it that do not fold flat. Contracts see the
+/// pattern, which cutting does not refuse.
 #[derive(Drop)]
 pub struct Judged {
     live: Live,

@@ -53,16 +53,3 @@ named_two w m f t r u z e a b h =
         | inr j ↦ inr (elim j [ inl i ↦ inl (at_spot w s.seen.0 r z v s.seen.2 i b) | inr i ↦ inr (above_spot w s.seen.0 r z v s.seen.2 i b) ])
       ],
     )
-
--- a pair that was seen is small
-pub seen_small : (w : Window) (m : ℕ) (s : Numerators) → IsWindow w → m ≤ 8 → IsSeen w m 0 s → (s.whole ≤ 2 ^ 20) × (s.root ≤ 2 ^ 20)
-seen_small w m s b small h =
-    let n : h.seen.0 ≤ 8 = elim h.seen.4 [ inl a ↦ omega (arith, a, small) | inr a ↦ absurd (omega (arith, a.1)) ] in
-    let p : h.seen.0 * w.d ≤ h.seen.0 * 1024 = mul-le-mul_left h.seen.0 b.d_small in
-    (omega (arith, h.seen.2, h.seen.3.i_small, b.k_small, n, p), omega (arith, h.seen.3.j_small, b.k_small))
-
-pub one_small : (w : Window) (m : ℕ) (f : Found) (t : Numerators) → IsWindow w → m ≤ 8 → f ≡ One t → Holds (IsSeen w m 0) f → (t.whole ≤ 2 ^ 20) × (t.root ≤ 2 ^ 20)
-one_small w m f t b small e h = (let k : Holds (IsSeen w m 0) (One t) = subst (λ g. Holds (IsSeen w m 0) g) e h in seen_small w m t b small k.0)
-
-pub two_small : (w : Window) (m : ℕ) (f : Found) (t r : Numerators) → IsWindow w → m ≤ 8 → f ≡ Two t r → Holds (IsSeen w m 0) f → ((t.whole ≤ 2 ^ 20) × (t.root ≤ 2 ^ 20)) × ((r.whole ≤ 2 ^ 20) × (r.root ≤ 2 ^ 20))
-two_small w m f t r b small e h = (let k : Holds (IsSeen w m 0) (Two t r) = subst (λ g. Holds (IsSeen w m 0) g) e h in (seen_small w m t b small k.0, seen_small w m r b small k.1))

@@ -4,7 +4,7 @@ use Rattle.std.specs.Prelude.{ℤ, pos, negsuc, neg_ℤ, ◌+ℤ◌, ◌-ℤ◌,
 use Rattle.std.proofs.lemmas.Int.{ints}
 use Rattle.exact.specs.Number.{ExactNumber, Same, AtMost, den, whole, add, sub, mul}
 use Rattle.exact.specs.Floor.{integer}
-use Rattle.exact.proofs.Ring.{is_eq, is_mul, is_add, is_sub, is_neg, is_lit, is_atom}
+use Rattle.exact.proofs.Ring.{is_eq, is_mul, is_add, is_sub, is_neg, is_lit, is_atom, over_one}
 use Rattle.exact.proofs.Unique.{triple}
 use Rattle.lattice.specs.Side.{NotNegative, NotBelow}
 use Rattle.lattice.specs.Lattice.{Measures, IsPlace, fraction}
@@ -40,9 +40,6 @@ pub record Placed (d k m n i j : ℕ) (u : ExactNumber) : Type 0 where
   pub to_one : NotBelow (d + k) i k j
   pub value : Same u (value_of d k (n * d + i) j)
 
-above_zero : (a : ℤ) (e : ℕ) → a *ℤ pos 1 -ℤ pos 0 *ℤ pos e ≡ a
-above_zero a e = is_eq (is_sub (is_mul (is_atom a) (is_lit 1)) (is_mul (is_lit 0) (is_lit e))) (is_atom a) (omega arith)
-
 below_one : (d e i k : ℕ) → e ≡ d → pos 1 *ℤ pos e -ℤ (pos i -ℤ pos k) *ℤ pos 1 ≡ pos (d + k) -ℤ pos i
 below_one d e i k p = rw p (is_eq (is_sub (is_mul (is_lit 1) (is_lit d)) (is_mul (is_sub (is_lit i) (is_lit k)) (is_lit 1))) (is_sub (is_lit (d + k)) (is_lit i)) (omega arith))
 
@@ -65,7 +62,7 @@ placed_at l m n i j u p hi hj h =
       below = h.below;
       i_small = hi;
       j_small = hj;
-      from_zero = record { side = moved _ _ _ _ (above_zero (pos i -ℤ pos l.k) (max 1 l.d)) (above_zero (pos j -ℤ pos l.k) (max 1 l.d)) (at_most_nn (whole 0) v h.from_zero) };
+      from_zero = record { side = moved _ _ _ _ (over_one (pos i -ℤ pos l.k) (max 1 l.d)) (over_one (pos j -ℤ pos l.k) (max 1 l.d)) (at_most_nn (whole 0) v h.from_zero) };
       to_one = record { side = moved _ _ _ _ (below_one l.d (max 1 l.d) i l.k (omega (arith, p))) (root_below (max 1 l.d) j l.k) (at_most_nn v (whole 1) h.to_one) };
       value = subst (λ z. Same u z) (sum_is l.d l.k n i j p) h.value;
     }
@@ -77,7 +74,7 @@ place_of l m n i j u p h =
       below = h.below;
       a_small = shifted_small i l.k h.i_small;
       b_small = shifted_small j l.k h.j_small;
-      from_zero = nn_at_most (whole 0) v (moved _ _ _ _ (sym (above_zero (pos i -ℤ pos l.k) (max 1 l.d))) (sym (above_zero (pos j -ℤ pos l.k) (max 1 l.d))) h.from_zero.side);
+      from_zero = nn_at_most (whole 0) v (moved _ _ _ _ (sym (over_one (pos i -ℤ pos l.k) (max 1 l.d))) (sym (over_one (pos j -ℤ pos l.k) (max 1 l.d))) h.from_zero.side);
       to_one = nn_at_most v (whole 1) (moved _ _ _ _ (sym (below_one l.d (max 1 l.d) i l.k (omega (arith, p)))) (sym (root_below (max 1 l.d) j l.k)) h.to_one.side);
       value = subst (λ z. Same u z) (sym (sum_is l.d l.k n i j p)) h.value;
     }

@@ -27,7 +27,8 @@ IsOrder s t answer = HasSign (pos s.whole -ℤ pos t.whole) (pos s.root -ℤ pos
 abbrev pub Holds : (Numerators → Type 0) → Found → Type 0
 Holds S Nothing = (s : Numerators) → S s → ⊥
 Holds S (One t) = S t × ((s : Numerators) → S s → AreSameNumerators s t)
-Holds S (Two t u) = S t × S u × IsBelow t u × ((s : Numerators) → S s → AreSameNumerators s t ⊎ (AreSameNumerators s u ⊎ IsBelow u s))
+Holds S (Two t u) = S t × S u × IsBelow t u
+    × ((s : Numerators) → S s → AreSameNumerators s t ⊎ (AreSameNumerators s u ⊎ IsBelow u s))
 
 -- the second is the first with the number s
 abbrev pub Inserts : Found → Numerators → Found → Type 0
@@ -39,4 +40,6 @@ Inserts (One f) s (One t) = AreSameNumerators s f × (t ≡ f)
 Inserts (One f) s (Two t u) = (IsBelow s f × (t ≡ s) × (u ≡ f)) ⊎ (IsBelow f s × (t ≡ f) × (u ≡ s))
 Inserts (Two f g) s Nothing = ⊥
 Inserts (Two f g) s (One t) = ⊥
-Inserts (Two f g) s (Two t u) = (IsBelow s f × (t ≡ s) × (u ≡ f)) ⊎ ((IsBelow f s × IsBelow s g × (t ≡ f) × (u ≡ s)) ⊎ ((AreSameNumerators s f ⊎ (AreSameNumerators s g ⊎ IsBelow g s)) × (t ≡ f) × (u ≡ g)))
+Inserts (Two f g) s (Two t u) = (IsBelow s f × (t ≡ s) × (u ≡ f))
+    ⊎ ((IsBelow f s × IsBelow s g × (t ≡ f) × (u ≡ s))
+    ⊎ ((AreSameNumerators s f ⊎ (AreSameNumerators s g ⊎ IsBelow g s)) × (t ≡ f) × (u ≡ g)))

@@ -5,7 +5,8 @@ use Rattle.lattice.specs.Lattice.{Measures, IsNearValue}
 use Rattle.lattice.specs.declared.near.Near.{Near}
 use Rattle.lattice.specs.declared.near.Near.TheVariants.{Nothing, One, Two}
 
--- of the numbers of a set. Nothing: there is none. One: this one is, and no other. Two: these two are, and each other one is above both.
+-- of the numbers of a set. Nothing: there is none. One: this one is, and no other. Two: these two
+-- are, and each other one is above both.
 abbrev pub IsAnswerOf : (ExactNumber → Type 0) → Near → Type 0
 IsAnswerOf V Nothing = (v : ExactNumber) → ¬ V v
 IsAnswerOf V (One u) = V u × ((v : ExactNumber) → V v → Same v u)

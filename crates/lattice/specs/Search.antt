@@ -19,8 +19,10 @@ pub record Fits (w : Window) (n i j : ℕ) : Type 0 where
   pub j_small : j ≤ 2 * w.k
   pub from_zero : NotBelow i w.k j w.k
   pub to_one : NotBelow (w.d + w.k) i w.k j
-  pub from : NotBelow (400000000000000 * (n * w.d + i) + 2 * w.spread) (400000000000000 * w.k + w.d * w.reach) (400000000000000 * j) (400000000000000 * w.k)
-  pub to : NotBelow (w.d * w.reach + 400000000000000 * w.k) (400000000000000 * (n * w.d + i)) (400000000000000 * w.k) (400000000000000 * j)
+  pub from : NotBelow (400000000000000 * (n * w.d + i) + 2 * w.spread)
+      (400000000000000 * w.k + w.d * w.reach) (400000000000000 * j) (400000000000000 * w.k)
+  pub to : NotBelow (w.d * w.reach + 400000000000000 * w.k) (400000000000000 * (n * w.d + i))
+      (400000000000000 * w.k) (400000000000000 * j)
 
 -- s is a near value at a whole part below n, or at n with a root part below j
 pub record IsSeen (w : Window) (n j : ℕ) (s : Numerators) : Type 0 where

@@ -1,5 +1,4 @@
 //! The two least of the values that were seen.
-ghost use Rattle.std.specs.Prelude.{◌≡◌};
 ghost use Rattle.lattice.specs.Found.{Inserts, IsOrder};
 
 use crate::side::difference_sign;

@@ -1,7 +1,6 @@
 //! The near values of a decimal.
 ghost use Rattle.std.specs.Prelude.{◌≡◌, ◌≤◌, ◌^◌, ◌*◌, ◌⊎◌, pos, ◌+ℤ◌, ◌<ℤ◌, IfSome, IfNone, unsigned_abs};
 ghost use Rattle.exact.specs.Number.{Same};
-ghost use Rattle.lattice.specs.Lattice.{IsLattice};
 ghost use Rattle.lattice.specs.Near.{IsAnswer, IsAnswerOf};
 ghost use Rattle.lattice.specs.Search.{IsWindow, IsSeen, IsSeenValue};
 ghost use Rattle.lattice.specs.Found.{value_of, Holds};
@@ -47,8 +46,11 @@ pub fn near_value(lattice: &Lattice, m: u64, units: i128) -> Near
 fn reach_of(units: i128, tolerance: u64) -> Option<u64>
     requires units { unsigned_abs units ≤ 2 ^ 100 }
     requires tolerance { tolerance ≤ 100000000000 }
-    ensures some { IfSome result (λ r. (pos r ≡ (units +ℤ pos tolerance) +ℤ pos 200000000000000) × (r ≤ 3600000000000000)) }
-    ensures none { IfNone result (((units +ℤ pos tolerance) +ℤ pos 200000000000000) <ℤ pos 0 ⊎ (pos 3600000000000000 <ℤ ((units +ℤ pos tolerance) +ℤ pos 200000000000000))) }
+    ensures some { IfSome result
+        (λ r. (pos r ≡ (units +ℤ pos tolerance) +ℤ pos 200000000000000) × (r ≤ 3600000000000000)) }
+    ensures none { IfNone result
+        (((units +ℤ pos tolerance) +ℤ pos 200000000000000) <ℤ pos 0
+        ⊎ (pos 3600000000000000 <ℤ ((units +ℤ pos tolerance) +ℤ pos 200000000000000))) }
 {
     let reach = units + i128::from(tolerance) + 200_000_000_000_000;
     if 0 <= reach && reach <= 3_600_000_000_000_000 {

@@ -1,5 +1,5 @@
 //! The sign of a difference.
-ghost use Rattle.std.specs.Prelude.{◌≡◌, pos, ◌-ℤ◌, ◌↔◌, IsTrue};
+ghost use Rattle.std.specs.Prelude.{pos, ◌-ℤ◌, ◌↔◌, IsTrue};
 ghost use Rattle.qroot2.specs.Wide.{HasSign};
 ghost use Rattle.lattice.specs.Side.{NotBelow};
 

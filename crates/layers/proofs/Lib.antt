@@ -1,3 +1,2 @@
-pub mod Places
-mod Orders
+pub mod callers
 mod Stars

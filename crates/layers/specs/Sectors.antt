@@ -11,7 +11,8 @@ sector_at sectors i = slice_index_or sectors i (record { first = 0; mark = mark.
 unfoldable pub behind : ℕ → ℕ → ℕ
 behind n i = cond (i + 1 == n) 0 (i + 1)
 
--- Sector i runs from ray i counterclockwise to the next ray, the last one to ray 0. With one ray it is the full turn.
+-- Sector i runs from ray i counterclockwise to the next ray, the last one to ray 0. With one ray it
+-- is the full turn.
 pub record IsSector (rays : List Ray) (i : ℕ) (sector : Sector) : Type 0 where
   pub first : sector.first ≡ (ray_at rays i).dir
   pub mark : sector.mark ≡ (ray_at rays i).mark

@@ -1,4 +1,5 @@
-//! The creases that meet at a point, the sectors between them, and the orders in which the folded sectors may lie on one another.
+//! The creases that meet at a point, the sectors between them, and the orders in which the folded
+//! sectors may lie on one another.
 #![tactic(auto)]
 
 mod order;

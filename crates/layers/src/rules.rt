@@ -1,7 +1,9 @@
 //! Whether an order of the sectors is a layer order.
 
 ghost use Rattle.std.specs.Prelude.{◌<◌, ◌≤◌, ◌↔◌, ℕ, length, IsTrue};
-ghost use Rattle.layers.specs.LayerOrder.{before as before_of, height, Between, AgreesAt, ClosesUp, HasEachOnce, AgreesWithMarks, CrossesNoCrease, NestsCreases, IsLayerOrder};
+ghost use Rattle.layers.specs.LayerOrder.{before as before_of, height, Between, AgreesAt, ClosesUp};
+ghost use Rattle.layers.specs.LayerOrder.{HasEachOnce, AgreesWithMarks, CrossesNoCrease, NestsCreases};
+ghost use Rattle.layers.specs.LayerOrder.{IsLayerOrder};
 ghost use Rattle.layers.specs.Sectors.{sector_at};
 ghost use Rattle.layers.specs.Stack.{ArePlaces, AreHeights};
 ghost use Rattle.layers.specs.Rows.{IsClear, ClearsAll, IsNested, NestsAll};
@@ -46,7 +48,8 @@ fn has_each_once(sectors: &[Sector], order: &[u8]) -> bool
     order.len() == sectors.len() && all_stand(order, sectors.len())
 }
 
-/// Whether two neighbouring sectors at these heights agree with the mark between them; `a` is the number of the first.
+/// Whether two neighbouring sectors at these heights agree with the mark between them; `a` is the
+/// number of the first.
 fn agrees(mark: Mark, a: usize, first: usize, second: usize) -> bool
     ensures { IsTrue result ↔ AgreesAt mark a first second }
 {
@@ -61,7 +64,9 @@ fn agrees(mark: Mark, a: usize, first: usize, second: usize) -> bool
 fn crease_agrees(sectors: &[Sector], order: &[u8], heights: &[usize], i: usize) -> bool
     requires heights { AreHeights order.now (length sectors.now) heights.now }
     requires i { i < length sectors.now }
-    ensures { IsTrue result ↔ AgreesAt (sector_at sectors.now i).mark (before_of (length sectors.now) i) (height order.now (before_of (length sectors.now) i)) (height order.now i) }
+    ensures { IsTrue result
+        ↔ AgreesAt (sector_at sectors.now i).mark (before_of (length sectors.now) i)
+        (height order.now (before_of (length sectors.now) i)) (height order.now i) }
 {
     let a = before(sectors.len(), i);
     let first = heights[a];
@@ -236,7 +241,10 @@ fn keeps_rules(sectors: &[Sector], order: &[u8]) -> bool
         && nests_creases(sectors, order, heights.as_slice(), places.as_slice())
 }
 
-/// Whether the order is a layer order of the sectors, by the five rules of `specs/LayerOrder.antt`: the zigzag of the sectors closes, each sector is in the order once, the creases agree with their marks, no sector crosses a crease, and creases at one place nest. After Hull, Origametry, and Demaine and O'Rourke, Geometric Folding Algorithms, chapter 12.
+/// Whether the order is a layer order of the sectors, by the five rules of `specs/LayerOrder.antt`:
+/// the zigzag of the sectors closes, each sector is in the order once, the creases agree with their
+/// marks, no sector crosses a crease, and creases at one place nest. After Hull, Origametry, and
+/// Demaine and O'Rourke, Geometric Folding Algorithms, chapter 12.
 pub fn is_order(sectors: &Sectors, order: &Order) -> bool
     ensures { IsTrue result ↔ IsLayerOrder sectors.now order.now }
 {

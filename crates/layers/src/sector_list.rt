@@ -11,7 +11,8 @@ use arrayvec::ArrayVec;
 use qroot2::Dir;
 use std::marker::Model;
 
-/// A sector between two neighbouring creases: the direction of the crease at which it begins, that crease's mark, and its angle counterclockwise, from 1 to 16 units of 22.5 degrees.
+/// A sector between two neighbouring creases: the direction of the crease at which it begins, that
+/// crease's mark, and its angle counterclockwise, from 1 to 16 units of 22.5 degrees.
 #[derive(Clone, Copy, Debug, Default, PartialEq, Eq)]
 pub struct Sector {
     pub first: Dir,
@@ -84,7 +85,9 @@ impl Sectors {
         self.sectors.as_slice()
     }
 
-    /// Whether the number of sectors is even and at least two, and the angles of the even sectors have the same sum as those of the odd ones: the folded sectors then close (Kawasaki's condition; Hull, Origametry).
+    /// Whether the number of sectors is even and at least two, and the angles of the even sectors
+    /// have the same sum as those of the odd ones: the folded sectors then close (Kawasaki's
+    /// condition; Hull, Origametry).
     pub fn closes_up(&self) -> bool
         ensures { IsTrue result ↔ ClosesUp self.now }
     {

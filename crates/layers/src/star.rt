@@ -62,7 +62,8 @@ impl Star {
     }
 }
 
-/// The sectors of a star: sector i runs from ray i counterclockwise to the next ray, the last one to ray 0. With one ray the one sector has angle 16.
+/// The sectors of a star: sector i runs from ray i counterclockwise to the next ray, the last one
+/// to ray 0. With one ray the one sector has angle 16.
 pub fn sectors(star: &Star) -> Sectors
     ensures { AreSectorsOf star.now result }
 {

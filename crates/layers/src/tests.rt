@@ -24,7 +24,8 @@ fn order(rt: &impl Abort, numbers: &[u8]) -> Order {
     Order::new(numbers).expect(rt, "an order")
 }
 
-// Four creases in the diagonals of the sheet, one a valley: of all lists of four numbers below four, one is a layer order.
+// Four creases in the diagonals of the sheet, one a valley: of all lists of four numbers below
+// four, one is a layer order.
 #[test]
 fn one_order(rt: HostRuntime) {
     let star = star(

@@ -6,7 +6,7 @@ use Rattle.std.proofs.lemmas.List.Elements.{All-nil, All-cons, All-head, All-wea
 use Rattle.std.proofs.lemmas.List.Kept.{AllPairs-cons}
 use Rattle.lines.specs.Words.{Word, IsBlank, EndsBlank, BeginsBlank}
 use Rattle.lines.specs.Taking.{is_blank, words_from}
-use Rattle.lines.proofs.callers.Elements.{head_has, tail_has, has_cases, has_none, same_heads, same_tails}
+use Rattle.chains.proofs.callers.Elements.{head_has, tail_has, has_cases, has_none, same_heads, same_tails}
 use Rattle.lines.proofs.WordsFrom.{end_of, take_more, blank_step, first_word, nothing_from}
 use Rattle.lines.proofs.Solid.{IsNoBlank, IsSolid, blank_yes, solid_front, solid_by, blank_back, blank_by, same_run, behind, ends_more, ends_after, ends_tail}
 

@@ -5,7 +5,7 @@ use Rattle.std.specs.List.{position_or_len}
 use Rattle.std.proofs.lemmas.Bool.{false≢true}
 use Rattle.lines.specs.Words.{Left, before}
 use Rattle.lines.specs.Taking.{is_blank, words_from, left_of}
-use Rattle.lines.proofs.callers.Elements.{below_no, placed, unplaced}
+use Rattle.chains.proofs.callers.Elements.{below_no, placed, unplaced}
 use Rattle.lines.proofs.WordsFrom.{is_solid, gap_of, end_of, drop_more, skip, none_from, first_of, first_word}
 
 place_or : (b : Bool) (n l : ℕ) → nat_lt n l ≡ b → n ≤ l → unwrap_or (cond b (Some n) None) l ≡ n

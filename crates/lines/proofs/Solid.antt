@@ -5,7 +5,7 @@ use Rattle.std.proofs.lemmas.Bool.Decides.{nat_tests}
 use Rattle.std.proofs.lemmas.List.Elements.{All-nil, All-cons, All-head, All-tail, All-same}
 use Rattle.lines.specs.Words.{IsBlank, EndsBlank, BeginsBlank}
 use Rattle.lines.specs.Taking.{is_blank}
-use Rattle.lines.proofs.callers.Elements.{same_heads, same_tails}
+use Rattle.chains.proofs.callers.Elements.{same_heads, same_tails}
 use Rattle.lines.proofs.WordsFrom.{end_of, drop_more, take_more}
 
 abbrev pub IsNoBlank : ℕ → Type 0

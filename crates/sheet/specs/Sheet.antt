@@ -31,7 +31,8 @@ abbrev pub corner : ExactSheet → ℕ → ℕ → ExactPoint
 corner sheet i j = record { x = whole (end_at i sheet.w); y = whole (end_at j sheet.h) }
 
 abbrev pub IsCorner : ExactSheet → ExactPoint → Type 0
-IsCorner sheet p = (p ≡ corner sheet 0 0) ⊎ ((p ≡ corner sheet 0 1) ⊎ ((p ≡ corner sheet 1 0) ⊎ (p ≡ corner sheet 1 1)))
+IsCorner sheet p = (p ≡ corner sheet 0 0)
+    ⊎ ((p ≡ corner sheet 0 1) ⊎ ((p ≡ corner sheet 1 0) ⊎ (p ≡ corner sheet 1 1)))
 
 -- the four sides, ascending: left, low, high, right
 abbrev pub sides : ExactSheet → List ExactSegment

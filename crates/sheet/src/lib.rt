@@ -1,8 +1,6 @@
 //! What the sheet of paper is, and a crease pattern on it.
 #![tactic(auto)]
 
-ghost use Rattle.sheet.specs.Pattern.{IsPattern};
-
 mod colour;
 mod mark;
 mod size;

@@ -27,7 +27,8 @@ impl Sheet {
     /// The sheet of this width and this height, or None exactly where one of them is outside 1 to 8.
     pub fn new(w: u8, h: u8) -> Option<Sheet>
         ensures some { IfSome result (λ sheet. sheet ≡ record { w = w; h = h }) }
-        ensures exactly { IsSome result ↔ (let sheet : ExactSheet = record { w = w; h = h } in IsSheet sheet) }
+        ensures exactly { IsSome result
+            ↔ (let sheet : ExactSheet = record { w = w; h = h } in IsSheet sheet) }
     {
         if is_length(w) && is_length(h) {
             Some(Sheet { w, h })

@@ -1,5 +1,5 @@
 use Rattle.std.proofs.lemmas.List.Filters.{dedup_is}
-use Rattle.chains.proofs.Neighbours.{sorted_ascends, sorted_keeps, sorted_adds_none}
+use Rattle.chains.proofs.callers.Neighbours.{sorted_ascends, sorted_keeps, sorted_adds_none}
 use Rattle.chains.proofs.ascending.Goals as goal
 
 pub returns-clause-ascends : goal.returns-clause-ascends

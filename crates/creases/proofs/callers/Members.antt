@@ -13,12 +13,13 @@ use Rattle.exact.specs.Plane.{ExactSegment, SegmentBefore}
 use Rattle.geometry.proofs.PointOrder.{before_not_itself, before_trans, same_before, before_same, same_trans, same_back}
 use Rattle.plane.specs.Order.{segment_cmp}
 use Rattle.plane.specs.Segments.{HasCanonicalEnds}
-use Rattle.plane.proofs.Orders.{segment_exact, segment_total, segment_less}
+use Rattle.plane.proofs.callers.Orders.{segment_exact, segment_total, segment_less}
 use Rattle.sheet.specs.Pattern.{ExactCrease}
 use Rattle.sheet.specs.declared.colour.Colour.{Colour}
 use Rattle.sheet.specs.declared.colour.Colour.TheVariants as colour
 use Rattle.sheet.specs.contracts.Colour.{the_type}
 use Rattle.creases.specs.Creases.{Ascends}
+use Rattle.chains.proofs.callers.Elements.{tail_has, has_cases}
 
 pub colour_or_not : (c d : Colour) → (c ≡ d) ⊎ (c ≢ d)
 colour_or_not colour.M colour.M = inl refl
@@ -56,23 +57,11 @@ crease_or_not f g = elim (segment_or_not f.seg g.seg) [
   | inl s ↦ elim (colour_or_not f.colour g.colour) [ inl c ↦ inl (crease_same f g s c) | inr n ↦ inr (λ e. n (λ i. (e i).colour)) ]
 ]
 
-pub first_has : {X : Type 0} (x f : X) (xs : List X) → x ≡ f → Contains (x ∷ xs) f
-first_has x f xs e = (0, omega arith, e)
-
-pub later_has : {X : Type 0} (x f : X) (xs : List X) → Contains xs f → Contains (x ∷ xs) f
-later_has x f xs c = (suc c.0, omega (arith, c.1), c.2)
-
-pub first_or_later : {X : Type 0} (x f : X) (xs : List X) → Contains (x ∷ xs) f → (x ≡ f) ⊎ Contains xs f
-first_or_later x f xs c = elim (Contains-append_cases (x ∷ []) xs f c) [
-  | inr k ↦ inr k
-  | inl k ↦ elim (Contains-push_cases [] x f k) [ inl n ↦ absurd (omega (arith, n.1)) | inr e ↦ inl e ]
-]
-
 pub has_or_not : (xs : List ExactCrease) (f : ExactCrease) → Contains xs f ⊎ (¬ Contains xs f)
 has_or_not [] f = inr (λ c. omega (arith, c.1))
 has_or_not (x ∷ xs) f = elim (crease_or_not x f) [
   | inl e ↦ inl (0, omega arith, e)
-  | inr n ↦ elim (has_or_not xs f) [ inl c ↦ inl (later_has x f xs c) | inr m ↦ inr (λ c. elim (first_or_later x f xs c) [ inl e ↦ n e | inr k ↦ m k ]) ]
+  | inr n ↦ elim (has_or_not xs f) [ inl c ↦ inl (tail_has x f xs c) | inr m ↦ inr (λ c. elim (has_cases x f xs c) [ inl e ↦ n e | inr k ↦ m k ]) ]
 ]
 
 pub segment_before_trans : (s t u : ExactSegment) → SegmentBefore s t → SegmentBefore t u → SegmentBefore s u
@@ -124,16 +113,16 @@ same_list (x ∷ xs) [] h k there back = absurd (let c = there x (0, omega arith
 same_list (x ∷ xs) (y ∷ ys) h k there back = (let e = firsts in let t = same_list xs ys (later_ascend x xs h) (later_ascend y ys k) (forth e) (from e) in λ i. e i ∷ t i)
   where
     firsts : x ≡ y
-    firsts = elim (first_or_later y x ys (there x (0, omega arith, refl))) [
+    firsts = elim (has_cases y x ys (there x (0, omega arith, refl))) [
       | inl e ↦ sym e
-      | inr c ↦ elim (first_or_later x y xs (back y (0, omega arith, refl))) [ inl e ↦ e | inr d ↦ absurd (segment_not_back x.seg y.seg (first_before x y xs h d) (first_before y x ys k c)) ]
+      | inr c ↦ elim (has_cases x y xs (back y (0, omega arith, refl))) [ inl e ↦ e | inr d ↦ absurd (segment_not_back x.seg y.seg (first_before x y xs h d) (first_before y x ys k c)) ]
     ]
 
     forth : x ≡ y → (f : ExactCrease) → Contains xs f → Contains ys f
-    forth e f c = elim (first_or_later y f ys (there f (later_has x f xs c))) [ inl s ↦ absurd (segment_not_itself x.seg f.seg (λ i. ((e ∙ s) i).seg) (first_before x f xs h c)) | inr d ↦ d ]
+    forth e f c = elim (has_cases y f ys (there f (tail_has x f xs c))) [ inl s ↦ absurd (segment_not_itself x.seg f.seg (λ i. ((e ∙ s) i).seg) (first_before x f xs h c)) | inr d ↦ d ]
 
     from : x ≡ y → (f : ExactCrease) → Contains ys f → Contains xs f
-    from e f c = elim (first_or_later x f xs (back f (later_has y f ys c))) [ inl s ↦ absurd (segment_not_itself y.seg f.seg (λ i. ((sym e ∙ s) i).seg) (first_before y f ys k c)) | inr d ↦ d ]
+    from e f c = elim (has_cases x f xs (back f (tail_has y f ys c))) [ inl s ↦ absurd (segment_not_itself y.seg f.seg (λ i. ((sym e ∙ s) i).seg) (first_before y f ys k c)) | inr d ↦ d ]
 
 -- what holds of each member holds of all
 pub all_of : {X : Type 0} (P : X → Type 0) (xs : List X) → ((x : X) → Contains xs x → P x) → All P xs

@@ -8,7 +8,7 @@ use Rattle.geometry.proofs.Found.{along_half, along_of}
 use Rattle.geometry.proofs.PointOrder.{ordered, tied, before_trans, before_not_same, same_before, same_back, same_trans, before_later, later_of, earlier_of}
 use Rattle.geometry.proofs.Segments.{overlapped, one_common, end_p, end_q}
 use Rattle.plane.specs.Support.{ExactLine, IsSupportOf}
-use Rattle.plane.proofs.Supports.{one_support, support_along}
+use Rattle.plane.proofs.callers.Supports.{one_support, support_along}
 
 pub overlap_back : (s t : ExactSegment) → Overlap s t → Overlap t s
 overlap_back s t v = (v.0, v.1, v.2, (v.3.1, v.3.0), (v.4.1, v.4.0))

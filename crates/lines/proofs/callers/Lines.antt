@@ -5,7 +5,7 @@ use Rattle.std.specs.List.{concat}
 use Rattle.std.proofs.lemmas.Bool.{cases_order}
 use Rattle.std.proofs.lemmas.List.Elements.{All-nil, All-cons, All-head, All-tail, Contains-append_right}
 use Rattle.lines.specs.Lines.{IsBare, IsFirstLine, IsLine, AreLines, AreFirstLines}
-use Rattle.lines.proofs.callers.Elements.{head_has, tail_has, has_cases, has_none, same_heads, same_tails}
+use Rattle.chains.proofs.callers.Elements.{head_has, tail_has, has_cases, has_none, same_heads, same_tails}
 
 -- lists cut at the first place of an element
 pub one_cut : (c : ℕ) (xs ys zs bs : List ℕ) → ¬ Contains xs c → ¬ Contains ys c

@@ -4,7 +4,7 @@ use Rattle.std.specs.Prelude.{AllPairs, Contains}
 use Rattle.lines.specs.Words.{Word, AreWords}
 use Rattle.lines.specs.Taking.{words_from}
 use Rattle.lines.proofs.AllWords.{Earlier, all_at}
-use Rattle.lines.proofs.callers.Elements.{head_has, tail_has, has_cases, has_none}
+use Rattle.chains.proofs.callers.Elements.{head_has, tail_has, has_cases, has_none}
 
 -- the words that are taken from the front on are all words of the line
 pub all_words : (line : List ℕ) → AreWords line (words_from 0 line)

@@ -4,7 +4,7 @@ use Rattle.cpfile.specs.CpDrawing.{DrawsLine}
 use Rattle.cpfile.specs.CpReading.{ReadsCp}
 use Rattle.cpfile.specs.CpAxes.{Ruled}
 use Rattle.cpfile.specs.CpSteps.{IsReadUpTo}
-use Rattle.cpfile.proofs.WholeText.{read_more, read_all, read_bad, no_bytes, some_bytes}
+use Rattle.cpfile.proofs.callers.WholeText.{read_more, read_all, read_bad, no_bytes, some_bytes}
 use Rattle.cpfile.proofs.reading.read_cp.Goals as goal
 
 pub returns-in-Err : goal.returns-in-Err

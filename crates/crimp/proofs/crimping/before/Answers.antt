@@ -1,5 +1,5 @@
 use Rattle.std.proofs.Common.{arith}
-use Rattle.layers.proofs.Places.{before_first, before_later}
+use Rattle.layers.proofs.callers.Places.{before_first, before_later}
 use Rattle.crimp.proofs.crimping.before.Goals as goal
 
 pub returns-then-i-eq0-clause-value : goal.returns-then-i-eq0-clause-value

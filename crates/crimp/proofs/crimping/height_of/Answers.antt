@@ -1,6 +1,6 @@
 use Rattle.std.proofs.Common.{arith, refl, length, ◌≡◌}
-use Rattle.crimp.proofs.Steps.{height_found, height_missing}
 use Rattle.crimp.proofs.crimping.height_of.Goals as goal
+use Rattle.layers.proofs.callers.Orders.{height_found, height_missing}
 
 pub returns-then-k-number : goal.returns-then-k-number
 returns-then-k-number c = height_found c.args.order.now c.loop-i.i c.args.number c.loop-i-test.true c.loop-i.invariant c.if-k-number.true

@@ -1,4 +1,4 @@
-use Rattle.qroot2.proofs.Splits.{digits_more}
+use Rattle.qroot2.proofs.callers.Splits.{digits_more}
 use Rattle.decimals.proofs.cut.run_len.Goals as goal
 
 pub loop-i-preserved : goal.loop-i-preserved

@@ -1,7 +1,7 @@
 use Rattle.std.proofs.Common.{length, take, drop, ◌-◌, inl, inr}
 use Rattle.std.proofs.lemmas.List.{take_rest}
-use Rattle.qroot2.proofs.Reading.{some_long}
-use Rattle.decimals.proofs.Spelling.{exponent_marked}
+use Rattle.qroot2.proofs.callers.Reading.{some_long}
+use Rattle.decimals.proofs.callers.Spelling.{exponent_marked}
 use Rattle.decimals.proofs.exponent.read_exponent.Goals as goal
 use Rattle.decimals.proofs.exponent.read_exponent.Goals.{else-tail-ne101-via-then-tail-ne101+else-tail-ne69, else-tail-ne101-via-else-tail-ne101}
 

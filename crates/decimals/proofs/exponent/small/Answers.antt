@@ -1,6 +1,6 @@
 use Rattle.std.proofs.Common.{inl, inr, arith}
-use Rattle.qroot2.proofs.Reading.{none_long, some_long}
-use Rattle.decimals.proofs.Spelling.{small_found, small_none}
+use Rattle.qroot2.proofs.callers.Reading.{none_long, some_long}
+use Rattle.decimals.proofs.callers.Spelling.{small_found, small_none}
 use Rattle.decimals.proofs.exponent.small.Goals as goal
 use Rattle.decimals.proofs.exponent.small.Goals.{then-is_empty-via-then-is_empty, then-is_empty-via-else-is_empty+then-digits-gt3, then-is_empty-via-else-is_empty+else-digits-gt3+then-not-is_empty}
 

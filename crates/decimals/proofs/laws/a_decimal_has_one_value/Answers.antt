@@ -1,4 +1,4 @@
-use Rattle.decimals.proofs.Spelling.{decimal_one}
+use Rattle.decimals.proofs.callers.Spelling.{decimal_one}
 use Rattle.decimals.proofs.laws.a_decimal_has_one_value.Goals as goal
 
 pub returns : goal.returns

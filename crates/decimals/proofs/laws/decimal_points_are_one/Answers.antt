@@ -1,4 +1,4 @@
-use Rattle.decimals.proofs.Points.{points_are_one}
+use Rattle.decimals.proofs.callers.Points.{points_are_one}
 use Rattle.decimals.proofs.laws.decimal_points_are_one.Goals as goal
 
 pub returns : goal.returns

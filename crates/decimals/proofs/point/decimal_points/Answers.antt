@@ -1,7 +1,7 @@
 use Rattle.std.proofs.Common.{arith, subst}
 use Rattle.std.proofs.lemmas.List.{take_all}
 use Rattle.decimals.specs.DecimalPoint.{AreDecimalPoints}
-use Rattle.decimals.proofs.Points.{points_more, points_length}
+use Rattle.decimals.proofs.callers.Points.{points_more, points_length}
 use Rattle.decimals.proofs.point.decimal_points.Goals as goal
 
 pub loop-point-preserved : goal.loop-point-preserved

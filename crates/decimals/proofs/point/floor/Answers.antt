@@ -1,6 +1,6 @@
 use Rattle.std.proofs.Common.{◌≤◌, ◌^◌, arith, subst, sym}
 use Rattle.std.specs.Prelude.{ℤ, unsigned_abs}
-use Rattle.qroot2.proofs.Held.{held_128}
+use Rattle.qroot2.proofs.callers.Held.{held_128}
 use Rattle.decimals.proofs.Floors.{floor_size}
 use Rattle.decimals.proofs.point.floor.Goals as goal
 

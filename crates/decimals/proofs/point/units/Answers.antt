@@ -3,7 +3,7 @@ use Rattle.std.specs.Prelude.{ℤ, pos, ◌+ℤ◌, ◌-ℤ◌, unsigned_abs}
 use Rattle.std.proofs.lemmas.Int.{ints}
 use Rattle.exact.specs.Number.{whole, mul}
 use Rattle.exact.specs.Floor.{IsFloor}
-use Rattle.qroot2.proofs.Held.{through, held_128}
+use Rattle.qroot2.proofs.callers.Held.{through, held_128}
 use Rattle.decimals.proofs.point.units.Goals as goal
 
 back : (k m : ℤ) (origin : ℕ) → m ≡ pos origin → unsigned_abs k ≤ 2 ^ 99 → origin ≤ 400000000000000

@@ -1,9 +1,9 @@
 use Rattle.std.proofs.Common.{◌≤◌, ◌+◌, length, inr, refl, ap, ◌∙◌}
 use Rattle.std.specs.Int.{w128}
 use Rattle.std.proofs.lemmas.Int.{to_z-of_z, fits_signed_from_abs}
-use Rattle.qroot2.proofs.Reading.{none_long}
+use Rattle.qroot2.proofs.callers.Reading.{none_long}
 use Rattle.decimals.specs.Decimal.{Decimal, signed, units_of}
-use Rattle.decimals.proofs.Spelling.{no_digits, no_exponent, pieces_spell, some_digit, some_digits, capped_signed, signed_small}
+use Rattle.decimals.proofs.callers.Spelling.{no_digits, no_exponent, pieces_spell, some_digit, some_digits, capped_signed, signed_small}
 use Rattle.decimals.proofs.read.read_decimal.Goals as goal
 use Rattle.decimals.proofs.read.read_decimal.Goals.{else-is_empty-via-then-is_empty+else-is_empty-2, else-is_empty-via-else-is_empty}
 

@@ -1,8 +1,8 @@
 use Rattle.std.proofs.Common.{◌+◌, ◌-◌, ◌*◌, get_or, take, min, ◌∙◌, ap, sym}
 use Rattle.std.proofs.lemmas.List.{take_more}
 use Rattle.qroot2.specs.Digits.{value_on as digits_on}
-use Rattle.qroot2.proofs.Numerals.{value_push}
-use Rattle.qroot2.proofs.Splits.{digits_at}
+use Rattle.qroot2.proofs.callers.Numerals.{value_push}
+use Rattle.qroot2.proofs.callers.Splits.{digits_at}
 use Rattle.decimals.specs.Decimal.{cap}
 use Rattle.decimals.proofs.Scaling.{capped_more}
 use Rattle.decimals.proofs.size.value_on.Goals as goal

@@ -2,9 +2,9 @@ use Rattle.std.proofs.Common.{◌≡◌, List, [], ◌∷◌, ◌++◌, sym, sub
 use Rattle.std.proofs.lemmas.List.{append-nil}
 use Rattle.exact.specs.Plane.{ExactSegment}
 use Rattle.sheet.specs.Pattern.{ExactCrease}
-use Rattle.plane.proofs.Told.{fails}
-use Rattle.pattern.proofs.Fronts.{moved}
-use Rattle.pattern.proofs.Told.{answers_no, answers_yes}
+use Rattle.plane.proofs.callers.Told.{fails}
+use Rattle.pattern.proofs.callers.Fronts.{moved}
+use Rattle.pattern.proofs.callers.Told.{answers_no, answers_yes}
 use Rattle.edits.specs.Rays.{RunsAlong, IsCrease}
 use Rattle.edits.proofs.AnyAlong.{None, no_crease, none_pushed, some_crease}
 use Rattle.edits.proofs.bisect.has_crease.Goals as goal

@@ -1,6 +1,6 @@
 use Rattle.std.proofs.Common.{sym, subst, ◌∙◌}
-use Rattle.plane.proofs.Told.{fails}
-use Rattle.pattern.proofs.Told.{answers_not}
+use Rattle.plane.proofs.callers.Told.{fails}
+use Rattle.pattern.proofs.callers.Told.{answers_not}
 use Rattle.edits.specs.Walls.{LeadsLeft, LeadsInside}
 use Rattle.edits.proofs.border.leads_inside.Goals as goal
 use Rattle.edits.proofs.border.leads_inside.Goals.{then-leads_left, else-leads_left, then-leads_left-2, else-leads_left-2}

@@ -1,7 +1,7 @@
 use Rattle.std.proofs.Common.{◌≡◌, ◌∙◌, ◌++◌, List, ap, sym}
 use Rattle.std.proofs.lemmas.List.{append-nil}
 use Rattle.sheet.specs.Pattern.{ExactCrease}
-use Rattle.pattern.proofs.Fronts.{moved}
+use Rattle.pattern.proofs.callers.Fronts.{moved}
 use Rattle.edits.proofs.draft.listed.Goals as goal
 
 pub loop-crease-init : goal.loop-crease-init

@@ -1,5 +1,5 @@
 use Rattle.std.proofs.Common.{◌≤◌, length, refl, inl}
-use Rattle.pattern.proofs.Told.{refuted, shown}
+use Rattle.pattern.proofs.callers.Told.{refuted, shown}
 use Rattle.sheet.specs.Pattern.{IsPattern, crease_limit}
 use Rattle.edits.specs.Drafts.{pattern_of}
 use Rattle.edits.specs.Rules.{Gives, Then}

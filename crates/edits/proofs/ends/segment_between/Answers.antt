@@ -6,7 +6,7 @@ use Rattle.sheet.specs.Sheet.{ExactSheet, InSheet, OnBorder}
 use Rattle.plane.specs.Segments.{HasEnds}
 use Rattle.plane.specs.declared.segment.SegBad.{SegBad}
 use Rattle.plane.specs.declared.segment.SegBad.TheVariants as seg_bad
-use Rattle.pattern.proofs.Told.{refuted, shown}
+use Rattle.pattern.proofs.callers.Told.{refuted, shown}
 use Rattle.edits.specs.Ends.{Joins, AreJoined, AreInSheet}
 use Rattle.edits.proofs.OneDrawing.{joins_one}
 use Rattle.edits.proofs.ends.segment_between.Goals as goal

@@ -3,7 +3,7 @@ use Rattle.std.proofs.lemmas.List.{append-nil}
 use Rattle.std.specs.Prelude.{Contains}
 use Rattle.sheet.specs.Sheet.{ExactSheet, sides}
 use Rattle.sheet.specs.Pattern.{ExactCrease}
-use Rattle.pattern.proofs.Fronts.{moved}
+use Rattle.pattern.proofs.callers.Fronts.{moved}
 use Rattle.edits.specs.Drafts.{with_creases}
 use Rattle.edits.specs.Rays.{IsSideOrCrease}
 use Rattle.edits.specs.Sights.{Sees}

@@ -1,4 +1,4 @@
-use Rattle.plane.proofs.Told.{fails}
+use Rattle.plane.proofs.callers.Told.{fails}
 use Rattle.edits.proofs.OnSheet.{within, out_of, inwards, not_inwards}
 use Rattle.edits.proofs.Exits.{missed}
 use Rattle.edits.proofs.Extended.{says_outside, says_border, says_covered, says_range, says_first, meets_some, first_key}

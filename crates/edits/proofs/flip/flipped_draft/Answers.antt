@@ -3,7 +3,7 @@ use Rattle.std.specs.Prelude.{All}
 use Rattle.exact.specs.Plane.{ExactSegment, Overlap}
 use Rattle.plane.specs.Segments.{IsHeld}
 use Rattle.sheet.specs.Pattern.{ExactCrease}
-use Rattle.pattern.proofs.Fronts.{moved}
+use Rattle.pattern.proofs.callers.Fronts.{moved}
 use Rattle.edits.specs.Drafts.{ExactDraft}
 use Rattle.creases.specs.Standing.{AreStanding}
 use Rattle.edits.proofs.CutPieces.{held_of, taken_apart}

@@ -3,7 +3,7 @@ use Rattle.std.specs.Prelude.{◌↔◌, Ok, Err}
 use Rattle.exact.specs.Plane.{ExactPoint, ExactSegment, IsPointCanonical}
 use Rattle.sheet.specs.Sheet.{ExactSheet}
 use Rattle.sheet.specs.Pattern.{ExactCrease, IsKey}
-use Rattle.pattern.proofs.Told.{refuted, shown}
+use Rattle.pattern.proofs.callers.Told.{refuted, shown}
 use Rattle.edits.specs.Ends.{AreInSheet}
 use Rattle.edits.specs.Lines.{LineOf}
 use Rattle.edits.specs.declared.refusal.EditBad.TheVariants as bad

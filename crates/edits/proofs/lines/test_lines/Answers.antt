@@ -3,7 +3,7 @@ use Rattle.std.specs.Prelude.{Ok}
 use Rattle.std.proofs.lemmas.List.{take_all}
 use Rattle.std.proofs.lemmas.Result.{err_from_is_err_and}
 use Rattle.sheet.specs.Pattern.{ExactCrease, IsKey}
-use Rattle.pattern.proofs.Told.{all_next, all_tested, more_taken}
+use Rattle.pattern.proofs.callers.Told.{all_next, all_tested, more_taken}
 use Rattle.edits.specs.Lines.{LineOf, LinesOf}
 use Rattle.edits.proofs.Each.{each_next, each_refused}
 use Rattle.edits.proofs.lines.test_lines.Goals as goal

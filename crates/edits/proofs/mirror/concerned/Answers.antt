@@ -1,7 +1,7 @@
 use Rattle.std.proofs.Common.{◌≡◌, ◌∙◌, ◌++◌, ◌∷◌, [], List, ap, append-nil, sym, subst}
 use Rattle.sheet.specs.Pattern.{ExactCrease}
-use Rattle.pattern.proofs.Fronts.{taken_pattern, moved}
-use Rattle.pattern.proofs.Told.{refuted, shown}
+use Rattle.pattern.proofs.callers.Fronts.{taken_pattern, moved}
+use Rattle.pattern.proofs.callers.Told.{refuted, shown}
 use Rattle.edits.specs.Mirror.{IsConcerned}
 use Rattle.edits.proofs.KeptCreases.{AreKept, kept_more, kept_passed, kept_creases}
 use Rattle.edits.proofs.mirror.concerned.Goals as goal

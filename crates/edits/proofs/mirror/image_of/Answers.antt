@@ -5,7 +5,7 @@ use Rattle.sheet.specs.Sheet.{ExactSheet, IsSheet, InSheet, OnBorder}
 use Rattle.sheet.specs.Pattern.{ExactCrease, IsKey}
 use Rattle.sheet.specs.declared.colour.Colour.{Colour}
 use Rattle.plane.specs.Segments.{HasCanonicalEnds}
-use Rattle.pattern.proofs.Told.{refuted, shown}
+use Rattle.pattern.proofs.callers.Told.{refuted, shown}
 use Rattle.edits.specs.CreaseSet.{crease}
 use Rattle.edits.specs.Ends.{AreInSheet}
 use Rattle.edits.specs.Mirror.{IsSegmentImage, ImageOf}

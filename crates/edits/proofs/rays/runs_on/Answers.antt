@@ -1,6 +1,6 @@
 use Rattle.std.proofs.Common.{◌<◌, eqb-true, sym, ◌∙◌, ◌⊎◌, arith}
-use Rattle.plane.proofs.Meets.{along_told}
-use Rattle.plane.proofs.Told.{fails}
+use Rattle.plane.proofs.callers.Meets.{along_told}
+use Rattle.plane.proofs.callers.Told.{fails}
 use Rattle.edits.proofs.RunsTold.{runs_told, runs_not}
 use Rattle.edits.proofs.rays.runs_on.Goals as goal
 use Rattle.edits.proofs.rays.runs_on.Goals.{then-number, else-number}

@@ -1,5 +1,5 @@
 use Rattle.std.proofs.Common.{sym, subst, inl, inr}
-use Rattle.plane.proofs.Told.{fails}
+use Rattle.plane.proofs.callers.Told.{fails}
 use Rattle.plane.proofs.callers.Beside.{beside_turns}
 use Rattle.edits.proofs.OneSegment.{Faces, none_of_it, across_none, across_at, across_lost}
 use Rattle.edits.proofs.sight.across.Goals as goal

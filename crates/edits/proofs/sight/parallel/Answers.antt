@@ -1,4 +1,4 @@
-use Rattle.plane.proofs.Told.{fails}
+use Rattle.plane.proofs.callers.Told.{fails}
 use Rattle.edits.proofs.OneSegment.{parallel_first, parallel_none}
 use Rattle.edits.proofs.sight.parallel.Goals as goal
 

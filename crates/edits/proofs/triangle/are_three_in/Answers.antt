@@ -1,5 +1,5 @@
 use Rattle.sheet.specs.Sheet.{InSheet}
-use Rattle.plane.proofs.Told.{fails}
+use Rattle.plane.proofs.callers.Told.{fails}
 use Rattle.edits.proofs.triangle.are_three_in.Goals as goal
 
 pub returns-then-are_in_sheet : goal.returns-then-are_in_sheet

@@ -1,4 +1,4 @@
-use Rattle.lattice.proofs.Apart.{usual_apart}
+use Rattle.lattice.proofs.callers.Apart.{usual_apart}
 use Rattle.lattice.proofs.laws.default_has_no_two.Goals as goal
 
 pub returns : goal.returns

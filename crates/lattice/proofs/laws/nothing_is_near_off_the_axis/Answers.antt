@@ -1,4 +1,4 @@
-use Rattle.lattice.proofs.Apart.{far_away}
+use Rattle.lattice.proofs.callers.Apart.{far_away}
 use Rattle.lattice.proofs.laws.nothing_is_near_off_the_axis.Goals as goal
 
 pub returns : goal.returns

@@ -1,5 +1,5 @@
 use Rattle.std.proofs.Common.{◌∙◌, arith}
-use Rattle.qroot2.proofs.Held.{through, held_128}
+use Rattle.qroot2.proofs.callers.Held.{through, held_128}
 use Rattle.lattice.proofs.Translated.{finish_none, finish_some}
 use Rattle.lattice.proofs.near.near_value.Goals as goal
 

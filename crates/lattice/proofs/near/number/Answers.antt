@@ -1,11 +1,12 @@
 use Rattle.std.proofs.Common.{refl, arith}
 use Rattle.exact.specs.Number.{ExactNumber, Same}
-use Rattle.qroot2.proofs.Answered.{some_given, none_given}
-use Rattle.qroot2.proofs.Held.{through}
+use Rattle.qroot2.proofs.callers.Answered.{some_given, none_given}
+use Rattle.qroot2.proofs.callers.Held.{through}
 use Rattle.std.specs.Prelude.{◌-ℤ◌}
 use Rattle.lattice.specs.Found.{value_of}
-use Rattle.lattice.proofs.Passed.{representable, is_some, some_tells, minus, minus_small, whole_small, gap_small}
+use Rattle.lattice.proofs.callers.Passed.{representable, is_some, minus, minus_small, whole_small, gap_small}
 use Rattle.lattice.proofs.near.number.Goals as goal
+use Rattle.exact.proofs.Told.{some_tells}
 
 pub unwrap-requires : goal.unwrap-requires
 unwrap-requires c =

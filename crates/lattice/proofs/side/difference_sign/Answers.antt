@@ -3,7 +3,7 @@ use Rattle.std.specs.Prelude.{ℤ, pos, ◌-ℤ◌}
 use Rattle.std.proofs.lemmas.Int.{ints}
 use Rattle.qroot2.specs.Wide.{HasSign}
 use Rattle.qroot2.specs.declared.sign.Sign.{Sign}
-use Rattle.qroot2.proofs.Held.{through, held_128}
+use Rattle.qroot2.proofs.callers.Held.{through, held_128}
 use Rattle.lattice.proofs.side.difference_sign.Goals as goal
 
 passed : (r s : ℤ) (a c : ℕ) → r ≡ pos a → s ≡ pos c → a < 2 ^ 64 → c < 2 ^ 64 → through (through r -ℤ through s) ≡ pos a -ℤ pos c

@@ -1,4 +1,4 @@
-use Rattle.layers.proofs.Places.{behind_last, behind_other}
+use Rattle.layers.proofs.callers.Places.{behind_last, behind_other}
 use Rattle.layers.proofs.sector_list.behind.Goals as goal
 
 pub returns-then-i-count-clause-value : goal.returns-then-i-count-clause-value

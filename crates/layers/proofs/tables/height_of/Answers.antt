@@ -1,5 +1,5 @@
 use Rattle.std.proofs.Common.{arith, refl, length, ◌≡◌}
-use Rattle.layers.proofs.Orders.{height_found, height_missing}
+use Rattle.layers.proofs.callers.Orders.{height_found, height_missing}
 use Rattle.layers.proofs.tables.height_of.Goals as goal
 
 pub returns-then-k-sector : goal.returns-then-k-sector

@@ -1,6 +1,6 @@
 use Rattle.std.proofs.Common.{arith}
 use Rattle.std.proofs.lemmas.Int.{ints}
-use Rattle.layers.proofs.Places.{place_zero, up_more, down_more}
+use Rattle.layers.proofs.callers.Places.{place_zero, up_more, down_more}
 use Rattle.layers.proofs.tables.place_of.Goals as goal
 use Rattle.layers.proofs.tables.place_of.Goals.{then-k-eq0, else-k-eq0}
 

@@ -6,7 +6,7 @@ use Rattle.sheet.specs.Pattern.{ExactCrease}
 use Rattle.creases.specs.Creases.{IsFree}
 use Rattle.creases.proofs.IndexChanges.{held_at, value_at}
 use Rattle.creases.proofs.Ranges.{none_free, last_free}
-use Rattle.creases.proofs.Told.{answers_other}
+use Rattle.creases.proofs.callers.Told.{answers_other}
 use Rattle.creases.proofs.index.LineIndex.is_free.Goals as goal
 
 pub is_reached-requires-clause-place : goal.is_reached-requires-clause-place

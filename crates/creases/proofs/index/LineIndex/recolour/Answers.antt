@@ -4,7 +4,7 @@ use Rattle.std.specs.BTreeMap.{values}
 use Rattle.sheet.specs.Pattern.{ExactCrease}
 use Rattle.creases.specs.Creases.{AreRecoloured, coloured_as}
 use Rattle.creases.proofs.IndexChanges.{found_at, is_found, recoloured_members, recoloured_index}
-use Rattle.creases.proofs.SegmentChanges.{none_or_some}
+use Rattle.creases.proofs.callers.SegmentChanges.{none_or_some}
 use Rattle.creases.proofs.index.LineIndex.recolour.Goals as goal
 
 pub returns-in_default : goal.returns-in_default

@@ -4,7 +4,7 @@ use Rattle.exact.specs.Plane.{ExactSegment}
 use Rattle.sheet.specs.Pattern.{ExactCrease}
 use Rattle.sheet.specs.declared.colour.Colour.{Colour}
 use Rattle.creases.specs.Creases.{IsUncreased}
-use Rattle.creases.proofs.Lookups.{colour_found, colour_missing}
+use Rattle.creases.proofs.callers.Lookups.{colour_found, colour_missing}
 use Rattle.creases.proofs.map.CreaseMap.colour.Goals as goal
 
 some : (r : Option Colour) (creases : List ExactCrease) (s : ExactSegment) → ((c : Colour) → r ≡ Some c → Contains creases (record { seg = s; colour = c })) → IfSome r (λ c. Contains creases (record { seg = s; colour = c }))

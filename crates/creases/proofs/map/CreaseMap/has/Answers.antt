@@ -1,4 +1,4 @@
-use Rattle.creases.proofs.Told.{has_told}
+use Rattle.creases.proofs.callers.Told.{has_told}
 use Rattle.creases.proofs.map.CreaseMap.has.Goals as goal
 
 pub returns-in-Some-clause-here : goal.returns-in-Some-clause-here

@@ -13,8 +13,8 @@ use Rattle.creases.specs.Creases.{AreRecoloured}
 use Rattle.creases.specs.Segments.{creases_of, AreFound}
 use Rattle.creases.specs.Standing.{AreStanding}
 use Rattle.creases.proofs.Found.{recoloured_found, recoloured_found_members}
-use Rattle.creases.proofs.Lookups.{colour_found, not_there}
-use Rattle.creases.proofs.Told.{has_told}
+use Rattle.creases.proofs.callers.Lookups.{colour_found, not_there}
+use Rattle.creases.proofs.callers.Told.{has_told}
 use Rattle.creases.proofs.map.CreaseMap.recolour.Goals as goal
 
 same_of : (b r : Bool) → r ≡ not b → r ≡ false → b ≡ true

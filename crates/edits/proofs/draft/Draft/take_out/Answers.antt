@@ -1,7 +1,7 @@
 use Rattle.std.proofs.Common.{◌≡◌, List, sym, ap, subst}
 use Rattle.std.specs.Prelude.{Contains}
 use Rattle.sheet.specs.Pattern.{ExactCrease}
-use Rattle.plane.proofs.Told.{fails}
+use Rattle.plane.proofs.callers.Told.{fails}
 use Rattle.creases.specs.Creases.{AreBut}
 use Rattle.edits.specs.Beside.{standing, AreBeside}
 use Rattle.edits.specs.Drafts.{ExactDraft}

@@ -4,7 +4,7 @@ use Rattle.std.proofs.lemmas.Bool.{cases_Bool}
 use Rattle.std.proofs.lemmas.List.Sums.{position_or_len_is}
 use Rattle.layers.specs.LayerOrder.{height}
 
-none_eqb : (a b : ℕ) → (a ≡ b → ⊥) → eqb a b ≡ false
+pub none_eqb : (a b : ℕ) → (a ≡ b → ⊥) → eqb a b ≡ false
 none_eqb a b h = elim (cases_Bool (eqb a b)) [ inl t ↦ absurd (h (eqb-true a b t)) | inr f ↦ f ]
 
 pub height_found : (order : List ℕ) (i a : ℕ) → i < length order → ((j : ℕ) → j < i → get_or order j 0 ≡ a → ⊥) → get_or order i 0 ≡ a → i ≡ height order a

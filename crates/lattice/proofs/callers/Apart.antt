@@ -13,6 +13,7 @@ use Rattle.lattice.specs.Found.{value_of}
 use Rattle.lattice.specs.declared.search.Window.{Window}
 use Rattle.lattice.proofs.Fitting.{stands, have}
 use Rattle.lattice.proofs.Translated.{stand, fit, below_axis, above_axis, off_axis, window_of, top_end}
+use Rattle.chains.proofs.callers.Elements.{below_yes}
 
 -- no multiple of √2 by at most that many is within 2 · spread of a whole number
 pub apart : ℕ → Bool
@@ -27,9 +28,6 @@ both : (a b : Bool) → (a && b) ≡ true → (a ≡ true) × (b ≡ true)
 both true b e = (refl, e)
 both false b e = absurd (false≢true e)
 
-less : (x y : ℕ) → nat_lt x y ≡ true → x < y
-less x y e = grind (arith, nat_tests)
-
 pub each_apart : (n q : ℕ) → apart n ≡ true → 1 ≤ q → q ≤ n → (128000002048 < (q * 565685424949238) % 400000000000000) × ((q * 565685424949238) % 400000000000000 < 399871999997952)
 unfolding apart
 each_apart zero q e p h = absurd (omega arith)
@@ -39,7 +37,7 @@ each_apart (suc n) q e p h =
     elim (cases_lt n q) [
       | inl lt ↦ (
           let same : suc n ≡ q = omega arith in
-          subst (λ y. (128000002048 < (y * 565685424949238) % 400000000000000) × ((y * 565685424949238) % 400000000000000 < 399871999997952)) same (less _ _ a.0, less _ _ b.0))
+          subst (λ y. (128000002048 < (y * 565685424949238) % 400000000000000) × ((y * 565685424949238) % 400000000000000 < 399871999997952)) same (below_yes _ _ a.0, below_yes _ _ b.0))
       | inr ge ↦ each_apart n q b.1 p ge
     ]
 

@@ -11,12 +11,12 @@ use Rattle.std.proofs.lemmas.List.Elements.{All-cons, All-contains, All-nil}
 use Rattle.std.proofs.lemmas.Bool.{true≢false}
 use Rattle.exact.specs.Plane.{ExactSegment}
 use Rattle.plane.specs.Order.{segment_cmp}
-use Rattle.plane.proofs.Orders.{segment_total, segment_exact}
+use Rattle.plane.proofs.callers.Orders.{segment_total, segment_exact}
 use Rattle.sheet.specs.Pattern.{ExactCrease}
 use Rattle.sheet.specs.declared.colour.Colour.{Colour}
 use Rattle.creases.specs.Creases.{IsUncreased}
 use Rattle.creases.specs.Segments.{crease_of, creases_of}
-use Rattle.creases.proofs.callers.Members.{later_has}
+use Rattle.chains.proofs.callers.Elements.{tail_has}
 
 pub tied : (r : Ordering) → is_eq r ≡ true → r ≡ o.Equal
 tied o.Less h = absurd (true≢false (sym h))
@@ -35,7 +35,7 @@ step_found true e es s c t h f =
   where
     pair : (a b : ExactSegment) (k l : Colour) → a ≡ b → k ≡ l → (let x : ExactCrease = record { seg = a; colour = k } in x) ≡ record { seg = b; colour = l }
     pair a b k l p q = λ i. record { seg = p i; colour = q i }
-step_found false e es s c t h f = later_has (crease_of e) (record { seg = s; colour = c }) (creases_of es) (f h)
+step_found false e es s c t h f = tail_has (crease_of e) (record { seg = s; colour = c }) (creases_of es) (f h)
 
 -- what a look-up by a segment finds is the colour of a crease on it
 pub colour_found : (es : List (ExactSegment × Colour)) (s : ExactSegment) (c : Colour) → lookup (is_at (segment_cmp s)) es ≡ Some c → Contains (creases_of es) (record { seg = s; colour = c })

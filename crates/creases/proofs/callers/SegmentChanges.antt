@@ -13,13 +13,14 @@ use Rattle.std.proofs.lemmas.Map.Entries.{lookup_head, lookup_tail, length-keys_
 use Rattle.exact.specs.Plane.{ExactSegment}
 use Rattle.plane.specs.Order.{segment_cmp}
 use Rattle.plane.specs.Segments.{HasCanonicalEnds}
-use Rattle.plane.proofs.Orders.{segment_exact, segment_total, segment_less}
+use Rattle.plane.proofs.callers.Orders.{segment_exact, segment_total, segment_less}
 use Rattle.sheet.specs.Pattern.{ExactCrease}
 use Rattle.sheet.specs.declared.colour.Colour.{Colour}
 use Rattle.creases.specs.Creases.{Ascends}
 use Rattle.creases.specs.Segments.{crease_of, creases_of}
-use Rattle.creases.proofs.Lookups.{colour_found}
-use Rattle.creases.proofs.callers.Members.{segment_or_not, tied_segments, first_or_later}
+use Rattle.creases.proofs.callers.Lookups.{colour_found}
+use Rattle.creases.proofs.callers.Members.{segment_or_not, tied_segments}
+use Rattle.chains.proofs.callers.Elements.{has_cases}
 
 pub at_or_not : (s t : ExactSegment) → ((is_at (segment_cmp s) t ≡ true) × (s ≡ t)) ⊎ ((is_at (segment_cmp s) t ≡ false) × (s ≢ t))
 at_or_not s t = elim (segment_or_not s t) [ inl e ↦ inl (ap is_eq (tied_segments s t e), e) | inr n ↦ inr (by (segment_cmp s t) refl n, n) ]
@@ -47,7 +48,7 @@ first_less e es f s c =
 -- the look-up by a crease's segment finds its colour
 pub found_in : (es : List (ExactSegment × Colour)) (f : ExactCrease) → IsStrictlySortedBy segment_cmp (keys_of es) → Contains (creases_of es) f → lookup (is_at (segment_cmp f.seg)) es ≡ Some f.colour
 found_in [] f s c = absurd (omega (arith, c.1))
-found_in (e ∷ es) f s c = elim (first_or_later (crease_of e) f (creases_of es) c) [
+found_in (e ∷ es) f s c = elim (has_cases (crease_of e) f (creases_of es) c) [
   | inl x ↦ lookup_head (is_at (segment_cmp f.seg)) e es (ap is_eq (tied_segments f.seg e.0 (λ i. (sym x i).seg))) ∙ (λ i. Some (x i).colour)
   | inr k ↦ lookup_tail (is_at (segment_cmp f.seg)) e es (ap is_eq (segment_total.antisymm f.seg e.0 ∙ ap ordering_reverse (first_less e es f s k))) ∙ found_in es f (sorted_tail segment_cmp e.0 (keys_of es) s) k
 ]

@@ -4,7 +4,7 @@ use Rattle.std.specs.Prelude.{Ok, Err}
 use Rattle.std.proofs.lemmas.List.{append-nil, length_push}
 use Rattle.std.proofs.lemmas.List.Elements.{All-nil, All-push}
 use Rattle.std.specs.Bool.{◌==◌}
-use Rattle.qroot2.proofs.Reading.{none_long, some_long}
+use Rattle.qroot2.proofs.callers.Reading.{none_long, some_long}
 use Rattle.sheet.specs.Pattern.{ExactCrease}
 use Rattle.lines.specs.Lines.{IsFirstLine}
 use Rattle.ports.specs.declared.stop.Stop.{Stop}

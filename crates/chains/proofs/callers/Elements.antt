@@ -29,7 +29,7 @@ same_heads e = cc
 pub same_tails : {b c : ℕ} {bs cs : List ℕ} → b ∷ bs ≡ c ∷ cs → bs ≡ cs
 same_tails e = cc
 
-below_yes : (m n : ℕ) → nat_lt m n ≡ true → m < n
+pub below_yes : (m n : ℕ) → nat_lt m n ≡ true → m < n
 below_yes m n e = grind (arith, nat_tests)
 
 pub below_no : (m n : ℕ) → nat_lt m n ≡ false → n ≤ m
@@ -39,7 +39,7 @@ some_place : (b : Bool) (n i : ℕ) → cond b (Some n) None ≡ Some i → (b �
 some_place true n i e = (refl, cc)
 some_place false n i e = absurd cc
 
-no_place : (b : Bool) (n : ℕ) → cond b (Some n) None ≡ None → b ≡ false
+pub no_place : (b : Bool) (n : ℕ) → cond b (Some n) None ≡ None → b ≡ false
 no_place true n e = absurd cc
 no_place false n e = refl
 

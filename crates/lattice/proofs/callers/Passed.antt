@@ -6,9 +6,9 @@ use Rattle.std.proofs.lemmas.Int.{ints}
 use Rattle.exact.specs.Number.{ExactNumber, IsRepresentable}
 use Rattle.exact.proofs.Lowest.{scales}
 use Rattle.exact.proofs.Order.{same_turned}
-use Rattle.qroot2.proofs.Held.{through, held_128}
-use Rattle.qroot2.proofs.Reduced.{reduced}
-use Rattle.qroot2.proofs.Made.{small, same_small, low, above, abs_signed}
+use Rattle.qroot2.proofs.callers.Held.{through, held_128}
+use Rattle.qroot2.proofs.callers.Reduced.{reduced}
+use Rattle.qroot2.proofs.callers.Made.{small, same_small, low, above, abs_signed}
 
 part_small : (n x g k : ℕ) → 0 < g → n ≡ x * g → n ≤ k → x ≤ k
 part_small n x g k p e h = (let more : x * 1 ≤ x * g = mul-le-mul_left x (omega arith) in omega (arith, e, more))
@@ -35,9 +35,6 @@ representable a b d p ha hb hd =
 pub is_some : (o : Option ExactNumber) (w : ExactNumber) → IsRepresentable w → IfNone o (IsRepresentable w → ⊥) → IsSome o
 is_some None w r f = absurd (f r)
 is_some (Some x) w r f = refl
-
-pub some_tells : (P : ExactNumber → Type 0) (o : Option ExactNumber) (x : ExactNumber) → o ≡ Some x → IfSome o P → P x
-some_tells P o x e h = rw e at h
 
 pub minus : (r s : ℤ) (a c : ℕ) → r ≡ pos a → s ≡ pos c → a ≤ 2 ^ 20 → c ≤ 2 ^ 20 → through r -ℤ through s ≡ pos a -ℤ pos c
 minus r s a c e f h k = rw (e, f, held_128 (pos a) (omega arith), held_128 (pos c) (omega arith)) refl

@@ -9,7 +9,7 @@ same_parts history other p f =
     let of : List Delta → List Delta → ExactHistory = λ (past future : List Delta). record { past = past; future = future } in
     ap (λ (past : List Delta). of past history.future) p ∙ ap (λ (future : List Delta). of other.past future) f
 
-same_front : (deltas others : List Delta) (delta other : Delta) → delta ∷ deltas ≡ other ∷ others → (delta ≡ other) × (deltas ≡ others)
+pub same_front : (deltas others : List Delta) (delta other : Delta) → delta ∷ deltas ≡ other ∷ others → (delta ≡ other) × (deltas ≡ others)
 same_front deltas others delta other e = (cc, cc)
 
 pub one_earlier : (later earlier other : ExactHistory) → IsBack later earlier → IsBack later other → earlier ≡ other

@@ -5,7 +5,7 @@ use Rattle.std.proofs.lemmas.List.{append-nil}
 use Rattle.qroot2.specs.Digits.{AllDigits, value_on}
 use Rattle.decimals.specs.Decimal.{Decimal, Spells, IsDecimal, IsSign, IsSmall, IsExponent, signed, units_of, cap, capped}
 use Rattle.std.specs.Bool.{◌==◌}
-use Rattle.qroot2.proofs.Reading.{some_long}
+use Rattle.qroot2.proofs.callers.Reading.{some_long}
 use Rattle.decimals.specs.declared.exponent.Exponent.{Exponent}
 use Rattle.decimals.specs.Cutting.{IsUnsigned, IsRun, IsFraction, IsCut, Cut, EndsRun, BeginsNot}
 use Rattle.decimals.proofs.Pieces.{cut_one, unsigned_one, runs_are_one, sign_off, sign_on, digits_begin_not}

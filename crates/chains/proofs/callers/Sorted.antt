@@ -10,7 +10,8 @@ use Rattle.std.specs.declared.cmp.Ordering.TheVariants as o
 use Rattle.std.proofs.lemmas.List.Elements.{Contains-get_or, Contains-append_left, Contains-append_right, Contains-append_cases, Contains-push, Contains-push_cases}
 use Rattle.std.proofs.lemmas.Map.Keys.{Less-from_sorted}
 use Rattle.chains.specs.Chains.{Ascends}
-use Rattle.chains.proofs.Neighbours.{places}
+use Rattle.chains.proofs.callers.Neighbours.{places}
+use Rattle.chains.proofs.callers.Elements.{has_none}
 
 -- zs is ys with x, in order
 record IsInserted {X : Type 0} (R : X → X → Ordering) (ys : List X) (x : X) (zs : List X) : Type 0 where
@@ -26,12 +27,9 @@ in_tail y ys z h = Contains-append_right (y ∷ []) ys z h
 at_head : {X : Type 0} (y : X) (ys : List X) → Contains (y ∷ ys) y
 at_head y ys = Contains-append_left (y ∷ []) ys y (Contains-push [] y)
 
-in_none : {X : Type 0} (z : X) → Contains [] z → ⊥
-in_none z h = omega (arith, h.1)
-
 in_cases : {X : Type 0} (y : X) (ys : List X) (z : X) → Contains (y ∷ ys) z → (y ≡ z) ⊎ Contains ys z
 in_cases y ys z h = elim (Contains-append_cases (y ∷ []) ys z h) [
-  | inl k ↦ elim (Contains-push_cases [] y z k) [ inl n ↦ absurd (in_none z n) | inr e ↦ inl e ]
+  | inl k ↦ elim (Contains-push_cases [] y z k) [ inl n ↦ absurd (has_none z n) | inr e ↦ inl e ]
   | inr k ↦ inr k
 ]
 
@@ -43,7 +41,7 @@ inserted : {X : Type 0} {R : X → X → Ordering} (t : IsTotalOrder R) → ((x 
 unfolding IsStrictlySortedBy
 inserted t exact [] s x = (
   x ∷ [],
-  record { sorted = (tt, tt); has = at_head x []; keeps = λ z h. absurd (in_none z h); adds = λ z h. elim (in_cases x [] z h) [ inl e ↦ inr e | inr n ↦ absurd (in_none z n) ]; above = λ y e h. (e, tt) },
+  record { sorted = (tt, tt); has = at_head x []; keeps = λ z h. absurd (has_none z h); adds = λ z h. elim (in_cases x [] z h) [ inl e ↦ inr e | inr n ↦ absurd (has_none z n) ]; above = λ y e h. (e, tt) },
 )
 inserted {X = X} {R = R} t exact (y ∷ ys) s x = by (inserted t exact ys s.1 x) (R x y) refl
   where
@@ -128,8 +126,8 @@ tail_within R apart x y xs ys same p f z c = elim (in_cases y ys z (f z (in_tail
 -- by an order that has no two elements before each other, two ascending lists with the same elements are one
 pub same_lists : {X : Type 0} (R : X → X → Type 0) → ((x y : X) → R x y → R y x → ⊥) → (xs ys : List X) → AllPairs R xs → AllPairs R ys → ((z : X) → Contains xs z → Contains ys z) → ((z : X) → Contains ys z → Contains xs z) → xs ≡ ys
 same_lists R apart [] [] p q f g = refl
-same_lists R apart [] (y ∷ ys) p q f g = absurd (in_none y (g y (at_head y ys)))
-same_lists R apart (x ∷ xs) [] p q f g = absurd (in_none x (f x (at_head x xs)))
+same_lists R apart [] (y ∷ ys) p q f g = absurd (has_none y (g y (at_head y ys)))
+same_lists R apart (x ∷ xs) [] p q f g = absurd (has_none x (f x (at_head x xs)))
 same_lists R apart (x ∷ xs) (y ∷ ys) p q f g =
     let e : x ≡ y = one_head R apart x y xs ys p q (f x (at_head x xs)) (g y (at_head y ys)) in
     let t = same_lists R apart xs ys (λ i j d l m. p (suc i) (suc j) d (omega arith) (omega arith)) (λ i j d l m. q (suc i) (suc j) d (omega arith) (omega arith))
