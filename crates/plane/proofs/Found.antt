@@ -1,5 +1,5 @@
 -- The direction from one point to a later one, as the code finds it.
-use Rattle.std.proofs.Common.{◌≡◌, ℕ, ◌+◌, ◌%◌, ◌<◌, ◌≤◌, refl, sym, subst, ◌∙◌, inl, inr, arith}
+use Rattle.std.proofs.Common.{◌≡◌, ℕ, ◌<◌, refl, sym, subst, ◌∙◌, inl, arith}
 use Rattle.std.specs.Prelude.{Option, Some, None, IfSome, IsSome, IsNone}
 use Rattle.exact.specs.Number.{Same}
 use Rattle.exact.specs.Plane.{ExactPoint, Before, ExactSegment, IsSegment, DirOf, vector}
@@ -12,20 +12,7 @@ use Rattle.geometry.proofs.Segments.{end_on}
 use Rattle.geometry.proofs.Directions.{vector_ahead}
 use Rattle.geometry.proofs.Found.{on_along, one_along, along_half}
 use Rattle.plane.specs.Ways.{IsAlong, IsAhead}
-use Rattle.plane.proofs.Zeros.{offset_cross}
-
--- all eight were tried
-pub none_ahead : (n : ℕ) (x y : Root) → 21 ≤ n → ((m : ℕ) → 13 ≤ m → m < n → ¬ IsAlong (m % 16) x y) → (k : ℕ) → IsAhead k → ¬ IsAlong k x y
-none_ahead n x y e h k a s = elim a.1 [
-  | inl f ↦ h (k + 16) (omega arith) (omega arith) (subst (λ j. IsAlong j x y) (turned k f) s)
-  | inr f ↦ h k (omega arith) (omega arith) (subst (λ j. IsAlong j x y) (small k a.0) s)
-]
-  where
-    turned : (k : ℕ) → k < 5 → k ≡ (k + 16) % 16
-    turned k f = omega arith
-
-    small : (k : ℕ) → k < 16 → k ≡ k % 16
-    small k f = omega arith
+use Rattle.plane.proofs.callers.Zeros.{offset_cross}
 
 made : ExactPoint → ExactPoint → ExactSegment
 made p q = record { p = p; q = q }

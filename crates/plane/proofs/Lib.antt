@@ -1,16 +1,8 @@
-pub mod Told
 pub mod Passed
 pub mod Numerators
-pub mod Zeros
-pub mod Turns
 pub mod Found
-pub mod Ends
+pub mod Slants
 pub mod callers
 pub mod SheetSides
 pub mod SidesMade
-pub mod Orders
-pub mod Supports
 pub mod Places
-pub mod Crossed
-pub mod Meets
-pub mod Imaged

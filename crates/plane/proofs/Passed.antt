@@ -3,9 +3,7 @@ use Rattle.std.proofs.Common.{◌≡◌, ℕ, ◌+◌, ◌*◌, ◌<◌, ◌≤�
 use Rattle.std.specs.Prelude.{ℤ, pos, neg_ℤ, ◌+ℤ◌, ◌-ℤ◌, ◌*ℤ◌, unsigned_abs, FitsSigned}
 use Rattle.std.specs.Int.{cast_signed, cast_unsigned, w64, w128}
 use Rattle.std.proofs.lemmas.Int.{ints, to_z-of_z, to_z_pos, fits_signed_from_abs, unsigned_abs-mul}
-
-pub sum_size : (x y : ℤ) → unsigned_abs (x +ℤ y) ≤ unsigned_abs x + unsigned_abs y
-sum_size x y = omega (arith, ints)
+use Rattle.geometry.proofs.Sizes.{sum_size}
 
 pub passed : (z : ℤ) → unsigned_abs z ≤ 2 ^ 121 → cast_signed w128 (cast_unsigned w128 z) ≡ z
 passed z h = to_z-of_z w128 z (fits_signed_from_abs w128 z (omega arith))

@@ -4,18 +4,15 @@ use Rattle.std.specs.Prelude.{◌↔◌, ℤ, pos, neg_ℤ, ◌-ℤ◌, ◌*ℤ�
 use Rattle.std.proofs.lemmas.Int.{ints}
 use Rattle.exact.specs.Number.{ExactNumber, AtMost, Positive, whole, den}
 use Rattle.exact.specs.Plane.{ExactPoint, ExactSegment, IsSegment}
-use Rattle.exact.proofs.Ring.{is_sub, is_neg, is_lit, is_atom, is_mul, is_eq}
+use Rattle.exact.proofs.Ring.{is_sub, is_neg, is_lit, is_atom, is_mul, is_eq, over_one}
 use Rattle.sheet.specs.Sheet.{ExactSheet, IsSheet, OnBorder}
 use Rattle.plane.specs.Corners.{AreOnSide}
 use Rattle.plane.proofs.callers.Sides.{on_one_side}
 
-once : (a : ℤ) (n : ℕ) → a *ℤ pos 1 -ℤ pos 0 *ℤ pos n ≡ a
-once a n = is_eq (is_sub (is_mul (is_atom a) (is_lit 1)) (is_mul (is_lit 0) (is_lit n))) (is_atom a) (omega arith)
-
 zero_at_most : (x : ExactNumber) → (((x.a ≡ pos 0) × (x.b ≡ pos 0)) ⊎ Positive x.a x.b) ↔ AtMost (whole 0) x
 zero_at_most x = (
-  λ h. elim h [ inl z ↦ inl (record { a = none x.a (den x) z.0; b = none x.b (den x) z.1 }) | inr p ↦ inr (rw (once x.a (den x), once x.b (den x)) p) ],
-  λ h. elim h [ inl s ↦ inl (back x.a (den x) s.a, back x.b (den x) s.b) | inr l ↦ inr (rw (once x.a (den x), once x.b (den x)) at l) ],
+  λ h. elim h [ inl z ↦ inl (record { a = none x.a (den x) z.0; b = none x.b (den x) z.1 }) | inr p ↦ inr (rw (over_one x.a (den x), over_one x.b (den x)) p) ],
+  λ h. elim h [ inl s ↦ inl (back x.a (den x) s.a, back x.b (den x) s.b) | inr l ↦ inr (rw (over_one x.a (den x), over_one x.b (den x)) at l) ],
 )
   where
     none : (a : ℤ) (n : ℕ) → a ≡ pos 0 → pos 0 *ℤ pos n ≡ a *ℤ pos 1

@@ -23,8 +23,5 @@ makes_number n (Some x) a h e f = refl
 pub number_is : (n : ℕ) (x : ExactNumber) (a : ℤ) → n ≤ 8 → a ≡ pos n → Same x (record { a = a; b = pos 0; d = 1 }) × IsCanonical x → x ≡ whole n
 number_is n x a h e s = unique x (whole n) s.1 (whole_canonical n h) (subst (λ z. Same x (record { a = z; b = pos 0; d = 1 })) e s.0)
 
-pub some_tells : (P : ExactNumber → Type 0) (r : Option ExactNumber) (x : ExactNumber) → r ≡ Some x → IfSome r P → P x
-some_tells P r x e h = rw e at h
-
 pub side_segment : (k : ℕ) (p q p' q' : ExactPoint) → p ≡ p' → q ≡ q' → (let s : ExactSegment = record { p = p'; q = q' } in Along s k) → (let s : ExactSegment = record { p = p; q = q } in IsSegment s)
 side_segment k p q p' q' e f a = rw (e, f) (a.ordered, (k, a.small, a.dir))

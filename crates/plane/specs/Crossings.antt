@@ -14,6 +14,8 @@ over n m = record { a = n.a; b = n.b; d = m }
 abbrev pub weight_of : ExactPoint → ℕ
 weight_of p = den p.x * den p.y
 
--- how far the line through p in direction k is from the origin, over the denominators of p and of another point
+-- how far the line through p in direction k is from the origin, over the denominators of p and of
+-- another point
 abbrev pub lift_of : ℕ → ExactPoint → ExactPoint → Root
-lift_of k p other = times (offset_of k (times (num p.x) (dn p.y)) (times (num p.y) (dn p.x))) (count (weight_of other))
+lift_of k p other = times (offset_of k (times (num p.x) (dn p.y)) (times (num p.y) (dn p.x)))
+    (count (weight_of other))

@@ -1,6 +1,7 @@
 -- The answers of `meet`.
 use Rattle.std.specs.Prelude.{◌≡◌, ℕ, ◌↔◌}
-use Rattle.exact.specs.Plane.{ExactPoint, ExactSegment, IsSegment, OnSeg, OnBoth, Cross, IsPointCanonical, IsPointRepresentable, vector}
+use Rattle.exact.specs.Plane.{ExactPoint, ExactSegment, IsSegment, OnSeg, OnBoth, Cross, IsPointCanonical}
+use Rattle.exact.specs.Plane.{IsPointRepresentable, vector}
 use Rattle.geometry.specs.Root.{count}
 use Rattle.geometry.specs.Meeting.{Along}
 use Rattle.geometry.specs.Gap.{cross}

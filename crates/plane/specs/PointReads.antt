@@ -13,9 +13,12 @@ pub record IsCutAtComma (bytes front back : List ℕ) : Type 0 where
   pub first : Lacks 44 front
   pub whole : bytes ≡ front ++ 44 ∷ back
 
--- Ok: the bytes are the text of the point. Otherwise there is no comma, which is Syntax, or the answer is that of the part before the comma where it is refused, and else that of the part behind it.
+-- Ok: the bytes are the text of the point. Otherwise there is no comma, which is Syntax, or the
+-- answer is that of the part before the comma where it is refused, and else that of the part behind
+-- it.
 abbrev pub ReadsPoint : List ℕ → Result ExactPoint NumText → Type 0
 ReadsPoint bytes (Ok p) = IsPointCanonical p × (point_text p ≡ bytes)
 ReadsPoint bytes (Err e) =
     (Lacks 44 bytes × (e ≡ Syntax))
-    ⊎ ((front : List ℕ) × (back : List ℕ) × IsCutAtComma bytes front back × (Reads front (Err e) ⊎ ((x : ExactNumber) × Reads front (Ok x) × Reads back (Err e))))
+    ⊎ ((front : List ℕ) × (back : List ℕ) × IsCutAtComma bytes front back
+    × (Reads front (Err e) ⊎ ((x : ExactNumber) × Reads front (Ok x) × Reads back (Err e))))

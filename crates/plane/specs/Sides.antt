@@ -6,7 +6,8 @@ use Rattle.qroot2.specs.declared.sign.Sign.{Sign}
 use Rattle.qroot2.specs.declared.sign.Sign.TheVariants.{Minus, Zero, Plus}
 use Rattle.qroot2.specs.Wide.{HasSign}
 
--- the turn from direction k to the way from p to r: above zero where r is on the left of the line through p in that direction, zero on the line
+-- the turn from direction k to the way from p to r: above zero where r is on the left of the line
+-- through p in that direction, zero on the line
 abbrev pub turn_of : ExactPoint → ℕ → ExactPoint → ExactNumber
 turn_of p k r = turn (vector k) (away p r)
 

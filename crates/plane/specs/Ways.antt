@@ -1,5 +1,5 @@
 -- Ways by their numerators.
-use Rattle.std.specs.Prelude.{◌≡◌, ℕ, ◌<◌, ◌⊎◌}
+use Rattle.std.specs.Prelude.{◌≡◌, ℕ, ◌<◌, ◌⊎◌, pos, ◌*ℤ◌, ◌-ℤ◌}
 use Rattle.exact.specs.Plane.{vector}
 use Rattle.qroot2.specs.Wide.{Pair}
 use Rattle.geometry.specs.Root.{Root, plus, times, minus, count}
@@ -20,3 +20,7 @@ IsAlong k x y = offset_of k x y ≡ count 0
 -- direction k leads to later points
 abbrev pub IsAhead : ℕ → Type 0
 IsAhead k = (k < 16) × ((k < 5) ⊎ (12 < k))
+
+-- √2 - 1 times a number
+abbrev pub tilted : Pair → Pair
+tilted x = record { a = pos 2 *ℤ x.b -ℤ x.a; b = x.a -ℤ x.b }

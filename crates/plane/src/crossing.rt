@@ -1,5 +1,5 @@
 //! The common point of two lines.
-ghost use Rattle.std.specs.Prelude.{◌≡◌, ◌≢◌, ℕ, ◌*◌, ◌%◌, ◌<◌, ◌≤◌, ◌^◌, IfSome, IfNone, unsigned_abs};
+ghost use Rattle.std.specs.Prelude.{◌≡◌, ◌≢◌, ◌*◌, ◌%◌, ◌<◌, ◌≤◌, ◌^◌, IfSome, IfNone, unsigned_abs};
 ghost use Rattle.exact.specs.Number.{IsCanonical, IsRepresentable, Same};
 ghost use Rattle.exact.specs.Plane.{ExactPoint, IsPointCanonical, IsPointRepresentable, vector};
 ghost use Rattle.geometry.specs.Root.{times, size};
@@ -19,7 +19,8 @@ pub fn cross_lines(p: &Point, first: Dir, q: &Point, second: Dir) -> Option<Poin
     requires { first % 8 ≢ second % 8 }
     ensures some { IfSome result (λ c. IsOnLine p.now first c × IsOnLine q.now second c) }
     ensures canonical { IfSome result IsPointCanonical }
-    ensures none { IfNone result ((c : ExactPoint) → IsOnLine p.now first c → IsOnLine q.now second c → ¬ IsPointRepresentable c) }
+    ensures none { IfNone result
+        ((c : ExactPoint) → IsOnLine p.now first c → IsOnLine q.now second c → ¬ IsPointRepresentable c) }
 {
     // both are below 16
     let _numbers = (first.number(), second.number());
@@ -43,7 +44,8 @@ fn determinant(first: Dir, second: Dir) -> Wide
     Dir::det(second, first)
 }
 
-/// How far the line through a point is from the origin, over the denominators of that point and of another one.
+/// How far the line through a point is from the origin, over the denominators of that point and of
+/// another one.
 fn lifted(at: &Point, dir: Dir, other: &Point) -> Wide
     ensures value { root result ≡ lift_of dir at.now other.now }
     ensures within { size (root result) ≤ 2 ^ 112 }

@@ -1,5 +1,5 @@
 //! The image of a point in a line.
-ghost use Rattle.std.specs.Prelude.{◌≡◌, ◌+◌, ◌*◌, ◌<◌, ◌≤◌, ◌^◌, IfSome, IfNone};
+ghost use Rattle.std.specs.Prelude.{◌+◌, ◌*◌, ◌<◌, ◌≤◌, ◌^◌, IfSome, IfNone};
 ghost use Rattle.exact.specs.Number.{IsCanonical, IsRepresentable, Same};
 ghost use Rattle.exact.specs.Plane.{ExactPoint, IsPointCanonical, IsPointRepresentable};
 ghost use Rattle.geometry.specs.Root.{plus, times, count, size};
@@ -16,7 +16,8 @@ use qroot2::{Dir, Num, Wide};
 pub fn reflect(point: &Point, at: &Point, axis: Dir) -> Option<Point>
     ensures some { IfSome result (λ q. IsImage at.now axis point.now q) }
     ensures canonical { IfSome result IsPointCanonical }
-    ensures none { IfNone result ((q : ExactPoint) → IsImage at.now axis point.now q → ¬ IsPointRepresentable q) }
+    ensures none { IfNone result
+        ((q : ExactPoint) → IsImage at.now axis point.now q → ¬ IsPointRepresentable q) }
 {
     // below 16
     let _number = axis.number();
@@ -60,8 +61,10 @@ fn moved(from: Wide, others: u64, by: Wide, below: u128) -> Option<Num>
     requires others { others ≤ 2 ^ 41 }
     requires by { size (root by) ≤ 2 ^ 115 }
     requires below { (0 < below) × (below ≤ 2 ^ 84) }
-    ensures some { IfSome result (λ x. Same x (over (plus (times (root from) (count others)) (root by)) below) × IsCanonical x) }
-    ensures none { IfNone result (¬ IsRepresentable (over (plus (times (root from) (count others)) (root by)) below)) }
+    ensures some { IfSome result
+        (λ x. Same x (over (plus (times (root from) (count others)) (root by)) below) × IsCanonical x) }
+    ensures none { IfNone result
+        (¬ IsRepresentable (over (plus (times (root from) (count others)) (root by)) below)) }
 {
     let top = scaled(from, others) + by;
     Num::new(top.a(), top.b(), below as i128)

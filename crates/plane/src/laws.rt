@@ -27,8 +27,10 @@ pub fn point_order_is_total()
 
 /// Of points that can be held the order is that of the real values, by x and then by y.
 pub fn point_order_is_of_values()
-    ensures less { (p q : ExactPoint) → IsPointCanonical p → IsPointCanonical q → (point_cmp p q ≡ Less) ↔ Before p q }
-    ensures equal { (p q : ExactPoint) → IsPointCanonical p → IsPointCanonical q → (point_cmp p q ≡ Equal) ↔ SamePoint p q }
+    ensures less { (p q : ExactPoint) → IsPointCanonical p → IsPointCanonical q
+        → (point_cmp p q ≡ Less) ↔ Before p q }
+    ensures equal { (p q : ExactPoint) → IsPointCanonical p → IsPointCanonical q
+        → (point_cmp p q ≡ Equal) ↔ SamePoint p q }
 {}
 
 /// The order of segments is total and transitive, and what it calls equal is one segment.
@@ -39,7 +41,8 @@ pub fn segment_order_is_total()
 
 /// Of segments whose ends can be held the order is by the lesser end and then by the greater one.
 pub fn segment_order_is_of_values()
-    ensures { (s t : ExactSegment) → HasCanonicalEnds s → HasCanonicalEnds t → (segment_cmp s t ≡ Less) ↔ SegmentBefore s t }
+    ensures { (s t : ExactSegment) → HasCanonicalEnds s → HasCanonicalEnds t
+        → (segment_cmp s t ≡ Less) ↔ SegmentBefore s t }
 {}
 
 /// Two segments have one supporting line exactly where they lie on one line.

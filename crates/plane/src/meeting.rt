@@ -1,6 +1,5 @@
 //! What two segments have in common, by their directions, the sides of their ends, and the order of points.
-ghost use Rattle.std.specs.Prelude.{◌≡◌, ◌≢◌, ℕ, ◌+◌, ◌<◌, ◌%◌};
-ghost use Rattle.exact.specs.Plane.{ExactPoint, IsPointCanonical};
+ghost use Rattle.std.specs.Prelude.{◌≡◌, ◌≢◌, ◌+◌, ◌<◌};
 ghost use Rattle.geometry.specs.Meeting.{Along};
 ghost use Rattle.plane.specs.Meets.{Meets, HasCanonicalPoints, AreCollinear};
 
@@ -117,7 +116,9 @@ fn slanted(s: &Seg, k: Dir, t: &Seg, j: Dir) -> Meet
 {
     let p = s.p();
     let q = t.p();
-    if is_beside(s, &q, j) || is_beside(t, &p, k) {
+    // the second is tried first: who has chosen it by the ends of the first knows already that they
+    // are not beside it
+    if is_beside(t, &p, k) || is_beside(s, &q, j) {
         return Meet::Apart;
     }
     match cross_lines(&p, k, &q, j) {

@@ -1,5 +1,5 @@
 //! The text of a point: two number texts with one comma between them.
-ghost use Rattle.std.specs.Prelude.{◌≡◌, ◌<◌, ◌++◌, ◌∷◌, length, take, slice_index, IfSome, IfNone, MatchOption};
+ghost use Rattle.std.specs.Prelude.{◌≡◌, ◌<◌, length, take, slice_index, IfSome, IfNone, MatchOption};
 ghost use Rattle.qroot2.specs.Digits.{Lacks};
 ghost use Rattle.plane.specs.PointText.{point_text};
 ghost use Rattle.plane.specs.PointReads.{IsCutAtComma, ReadsPoint};
@@ -47,7 +47,8 @@ fn split_at_comma(bytes: &[u8]) -> Option<(&[u8], &[u8])>
 
 /// The place of the first comma.
 fn comma(bytes: &[u8]) -> Option<usize>
-    ensures some { IfSome result (λ i. (i < length bytes.now) × (slice_index bytes.now i ≡ 44) × Lacks 44 (take i bytes.now)) }
+    ensures some { IfSome result
+        (λ i. (i < length bytes.now) × (slice_index bytes.now i ≡ 44) × Lacks 44 (take i bytes.now)) }
     ensures none { IfNone result (Lacks 44 bytes.now) }
 {
     for (i, byte) in bytes.iter().enumerate() {

@@ -1,16 +1,16 @@
 //! Segments: two ends in order, joined by one of the sixteen directions.
-ghost use Rattle.std.specs.Prelude.{◌≡◌, ◌≢◌, ℕ, ◌<◌, ◌≤◌, ◌^◌, ◌%◌, IfOk, IfSome, IsNone, IsTrue, ◌↔◌, Err};
+ghost use Rattle.std.specs.Prelude.{◌≡◌, ◌≢◌, ℕ, ◌<◌, ◌≤◌, ◌^◌, ◌⊎◌, IfOk, IfSome, IsNone, IsTrue, ◌↔◌, Err};
 ghost use Rattle.exact.specs.Plane.{ExactSegment, Before, DirOf, IsSegment, OnSeg, IsPointCanonical};
 ghost use Rattle.geometry.specs.Root.{size};
-ghost use Rattle.plane.specs.Ways.{root, IsAlong, IsAhead};
+ghost use Rattle.plane.specs.Ways.{root, tilted, IsAlong, IsAhead};
 ghost use Rattle.plane.specs.Segments.{HasEnds, IsHeld};
 ghost use Rattle.plane.specs.declared.segment.SegBad.{SegBad};
 
 use crate::Point;
 use crate::order::{is_before, is_level, is_plumb, is_same_point};
-use crate::sides::{is_along, is_on_line};
+use crate::sides::is_on_line;
 use crate::ways::Way;
-use qroot2::Dir;
+use qroot2::{Dir, Wide};
 use std::marker::Model;
 
 /// A segment: two points, the lesser and the greater, that one of the sixteen directions joins.
@@ -136,7 +136,8 @@ fn in_order(p: Point, q: Point) -> Result<(Seg, Dir), SegBad>
     ensures ok { IfOk result (λ s. IsSegment s.0 × (s.0 ≡ record { p = p; q = q })) }
     ensures held { IfOk result (λ s. IsHeld s.0) }
     ensures dir { IfOk result (λ s. (s.1 < 16) × DirOf s.0.p s.0.q s.1) }
-    ensures not_direction { (result ≡ Err SegBad.NotDirection) ↔ (let s : ExactSegment = record { p = p; q = q } in ¬ IsSegment s) }
+    ensures not_direction { (result ≡ Err SegBad.NotDirection)
+        ↔ (let s : ExactSegment = record { p = p; q = q } in ¬ IsSegment s) }
     ensures not_same { result ≢ Err SegBad.SamePoint }
 {
     match direction(&p, &q) {
@@ -160,25 +161,65 @@ fn direction(from: &Point, to: &Point) -> Option<Dir>
     }
 }
 
-/// The direction, between 13 and 20 counted past 16, along whose lines a way leads, if there is one.
+/// The direction, one that leads to later points, along whose lines a way leads, if there is one.
 fn slanted(way: &Way) -> Option<Dir>
     requires x { size (root way.now.x) ≤ 2 ^ 110 }
     requires y { size (root way.now.y) ≤ 2 ^ 110 }
     ensures some { IfSome result (λ k. IsAhead k × IsAlong k (root way.now.x) (root way.now.y)) }
     ensures none { IsNone result → (k : ℕ) → IsAhead k → ¬ IsAlong k (root way.now.x) (root way.now.y) }
 {
-    for n in 13..21 {
-        let dir = numbered(n);
-        if is_along(dir, way) {
-            return Some(dir);
-        }
+    let (x, y) = (way.x, way.y);
+    if y == x {
+        Dir::new(2)
+    } else if y == -x {
+        Dir::new(14)
+    } else {
+        oblique(x, y)
     }
-    None
 }
 
-/// The direction of a number of units, also past 16.
-fn numbered(n: u8) -> Dir
-    ensures { result ≡ n % 16 }
+/// The same of a way that is not diagonal. No product is taken.
+fn oblique(x: Wide, y: Wide) -> Option<Dir>
+    requires x { size (root x) ≤ 2 ^ 110 }
+    requires y { size (root y) ≤ 2 ^ 110 }
+    ensures some { IfSome result (λ k. IsAhead k × IsAlong k (root x) (root y)) }
+    ensures none { IsNone result → (k : ℕ) → IsAhead k → (k ≡ 2)
+        ⊎ ((k ≡ 14) ⊎ (¬ IsAlong k (root x) (root y))) }
 {
-    Dir::default().turn(n)
+    let (low, narrow) = (lessened(x), lessened(y));
+    if y == low {
+        Dir::new(1)
+    } else if y == -low {
+        Dir::new(15)
+    } else if x == narrow {
+        Dir::new(3)
+    } else if x == -narrow {
+        Dir::new(13)
+    } else {
+        axial(x, y)
+    }
+}
+
+/// The direction of an axis along which a way leads, if it does.
+fn axial(x: Wide, y: Wide) -> Option<Dir>
+    ensures some { IfSome result (λ k. ((k ≡ 0) ⊎ (k ≡ 4)) × IsAlong k (root x) (root y)) }
+    ensures none { IsNone result → (¬ IsAlong 0 (root x) (root y)) × (¬ IsAlong 4 (root x) (root y)) }
+{
+    let none = Wide::new(0, 0);
+    if y == none {
+        Dir::new(0)
+    } else if x == none {
+        Dir::new(4)
+    } else {
+        None
+    }
+}
+
+/// A number times √2 - 1.
+fn lessened(x: Wide) -> Wide
+    requires { size (root x) ≤ 2 ^ 110 }
+    ensures { result ≡ tilted x }
+{
+    let (a, b) = (x.a(), x.b());
+    Wide::new(2 * b - a, a - b)
 }

@@ -1,5 +1,5 @@
 //! On which side of a line a point is, or a segment.
-ghost use Rattle.std.specs.Prelude.{◌≡◌, ℕ, ◌≤◌, ◌^◌, IsTrue, ◌↔◌};
+ghost use Rattle.std.specs.Prelude.{◌≡◌, ◌≤◌, ◌^◌, IsTrue, ◌↔◌};
 ghost use Rattle.exact.specs.Plane.{vector};
 ghost use Rattle.geometry.specs.Root.{count, size};
 ghost use Rattle.geometry.specs.Gap.{cross};

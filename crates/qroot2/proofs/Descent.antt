@@ -2,17 +2,9 @@
 use Rattle.std.proofs.Common.{◌≡◌, Bool, true, false, not, refl, ◌≤◌, ◌<◌, ◌+◌, ◌*◌, ℕ, arith, sym}
 use Rattle.std.proofs.lemmas.Nat.{mul-le}
 use Rattle.std.proofs.lemmas.Bool.{false≢true}
+use Rattle.exact.proofs.Root.{norm_turns}
 
 -- a step keeps the norm up to its sign
-pub norm_turns : (x y u v : ℕ) → x ≡ u + 2 * v → y ≡ u + v → x * x + u * u ≡ 2 * (y * y) + 2 * (v * v)
-norm_turns x y u v e f = rw (e, f) (omega arith)
-
-pub below_root : (x y : ℕ) → x ≤ y → 0 < y → x * x < 2 * (y * y)
-below_root x y h p = omega (arith, mul-le x x y y h h, mul-le 1 1 y y p p)
-
-pub above_root : (x y : ℕ) → 2 * y ≤ x → 0 < y → 2 * (y * y) < x * x
-above_root x y h p = omega (arith, mul-le (2 * y) (2 * y) x x h h, mul-le 1 1 y y p p)
-
 -- What a turn of the descent keeps, with the next pair u, v.
 pub turn_kept : (x y u v a b : ℕ) (same : Bool) → x ≡ u + 2 * v → y ≡ u + v
     → (same ≡ true → x * x + 2 * (b * b) ≡ 2 * (y * y) + a * a)

@@ -7,7 +7,7 @@ use Rattle.std.proofs.lemmas.Int.{to_z-of_z, fits_signed_from_abs}
 use Rattle.exact.specs.Number.{ExactNumber, Same}
 use Rattle.qroot2.specs.Num.{Reduces, signed}
 use Rattle.qroot2.specs.Lowest.{IsInLowestTerms}
-use Rattle.qroot2.proofs.Made.{abs_signed, same_small, low, above}
+use Rattle.qroot2.proofs.callers.Made.{abs_signed, same_small, low, above}
 
 held_back : (z r : ℤ) (s : ℕ) → s ≤ 2 ^ 120 → r ≡ signed z s → cast_signed w128 (cast_unsigned w128 r) ≡ signed z s
 held_back z r s h e =

@@ -1,16 +1,7 @@
+pub mod callers
 pub mod Descent
-pub mod Reduced
-pub mod Made
 pub mod InLowestTerms
-pub mod Signs
-pub mod Answered
 pub mod Pairs
-pub mod Held
 pub mod Roots
-pub mod Numerals
-pub mod Splits
-pub mod Reading
 pub mod ReadingParts
-pub mod OneText
-pub mod Decimals
 pub mod Vectors

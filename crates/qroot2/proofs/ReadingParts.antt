@@ -8,9 +8,9 @@ use Rattle.exact.specs.Number.{ExactNumber}
 use Rattle.qroot2.specs.Text.{numeral, signed_text, both_text, numerator_text, denominator_text, number_text}
 use Rattle.qroot2.specs.Digits.{Lacks, capped, capped_size, AreSummands, AreBoth}
 use Rattle.qroot2.specs.declared.text.Numerator.{Numerator}
-use Rattle.qroot2.proofs.Numerals.{numeral_injective}
-use Rattle.qroot2.proofs.Splits.{lacks_append, lacks_not, split_unique, lacks_numeral}
-use Rattle.qroot2.proofs.Reading.{plus_found, plus_none, capped_abs}
+use Rattle.qroot2.proofs.callers.Numerals.{numeral_injective}
+use Rattle.qroot2.proofs.callers.Splits.{lacks_append, lacks_not, split_unique, lacks_numeral}
+use Rattle.qroot2.proofs.callers.Reading.{plus_found, plus_none, capped_abs}
 
 pub plus_read : (o : Option Numerator) (whole root bytes : List ℕ) → Lacks 43 whole → bytes ≡ whole ++ 43 ∷ root
     → MatchOption o ((a : ℤ) (n : ℕ) → AreSummands a n whole root → ⊥) (λ v. (a : ℤ) × (n : ℕ) × AreSummands a n whole root × (v.a ≡ capped a) × (v.b ≡ pos (capped_size n)))

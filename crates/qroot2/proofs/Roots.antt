@@ -12,6 +12,7 @@ use Rattle.exact.proofs.Root.{irrational}
 use Rattle.exact.proofs.Positive.{positive_sum}
 use Rattle.exact.proofs.Ring.{is_eq, is_le, is_lt, is_add, is_sub, is_neg, is_mul, is_atom, is_lit}
 use Rattle.qroot2.specs.Root.{IsRootOf, IsRootPart}
+use Rattle.exact.proofs.Order.{none_gap}
 
 pub root_low : (b w r : ℕ) → IsRootOf b w r → b ≤ w
 root_low b w r h = elim (cases_lt w b) [
@@ -146,9 +147,6 @@ lack_b : (n : ℕ) (a b : ℤ) (d : ℕ) → pos 0 *ℤ pos d -ℤ (pos n *ℤ b
 lack_b n a b d =
     let N = is_lit n in let A = is_atom a in let B = is_atom b in let D = is_lit d in
     is_eq (is_sub (is_mul (is_lit 0) D) (is_mul (is_add (is_mul N B) (is_mul (is_lit 0) A)) (is_lit 1))) (is_neg (is_mul N B)) (omega arith)
-
-none_gap : (x y : ℤ) → x -ℤ y ≡ pos 0 → x ≡ y
-none_gap x y e = omega (arith, ints)
 
 gap_from : (x y : ℤ) → x ≤ℤ y → pos 0 ≤ℤ (y -ℤ x)
 gap_from x y h = omega (arith, ints)

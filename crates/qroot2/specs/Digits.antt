@@ -1,5 +1,6 @@
 -- Digit strings and what they are worth, byte by byte.
-use Rattle.std.specs.Prelude.{◌≡◌, ◌≢◌, ℕ, suc, ◌+◌, ◌-◌, ◌*◌, ◌<◌, ◌≤◌, ◌^◌, List, [], ◌∷◌, length, min, ℤ, pos, negsuc, neg_ℤ, slice_index}
+use Rattle.std.specs.Prelude.{◌≡◌, ◌≢◌, ℕ, suc, ◌+◌, ◌-◌, ◌*◌, ◌<◌, ◌≤◌, ◌^◌, List, [], ◌∷◌, length, min, ℤ}
+use Rattle.std.specs.Prelude.{pos, negsuc, neg_ℤ, slice_index}
 use Rattle.qroot2.specs.Text.{numeral, signed_text, both_text}
 
 -- a digit string: no leading zero unless it is `0` itself

@@ -1,5 +1,6 @@
 -- The text of a number, spelled once: digit strings, signed ones, the numerator, and the whole.
-use Rattle.std.specs.Prelude.{◌≡◌, ℕ, zero, suc, ◌+◌, ◌/◌, ◌%◌, ◌<◌, ◌≤◌, ◌^◌, ℤ, pos, negsuc, unsigned_abs, List, [], ◌∷◌, ◌++◌, true, false, nat_lt, Result, Ok, Err}
+use Rattle.std.specs.Prelude.{◌≡◌, ℕ, zero, suc, ◌+◌, ◌/◌, ◌%◌, ◌<◌, ◌≤◌, ◌^◌, ℤ, pos, negsuc, unsigned_abs}
+use Rattle.std.specs.Prelude.{List, [], ◌∷◌, ◌++◌, true, false, nat_lt, Result, Ok, Err}
 use Rattle.exact.specs.Number.{ExactNumber, IsCanonical, IsLowest}
 use Rattle.qroot2.specs.declared.text.NumText.{NumText}
 use Rattle.qroot2.specs.declared.text.NumText.TheVariants.{Syntax, Range}
@@ -7,7 +8,8 @@ use Rattle.qroot2.specs.declared.text.NumText.TheVariants.{Syntax, Range}
 -- the last fuel decimal digits
 unfoldable pub numeral_by : ℕ → ℕ → List ℕ
 numeral_by zero n = []
-numeral_by (suc fuel) n = elim (nat_lt n 10) [ true ↦ (48 + n) ∷ [] | false ↦ numeral_by fuel (n / 10) ++ (48 + n % 10) ∷ [] ]
+numeral_by (suc fuel) n = elim
+    (nat_lt n 10) [ true ↦ (48 + n) ∷ [] | false ↦ numeral_by fuel (n / 10) ++ (48 + n % 10) ∷ [] ]
 
 -- the decimal digits of a number of any size, with no leading zero
 unfoldable pub numeral : ℕ → List ℕ
@@ -50,8 +52,11 @@ pub record IsWithinLimits (x : ExactNumber) : Type 0 where
   pub b : unsigned_abs x.b ≤ 2 ^ 48
   pub d : x.d ≤ 2 ^ 20
 
--- What reading bytes as a number answers. Ok: they are the text of the number. Range: they are that of a triple out of the limits. Syntax: each triple with that text is within the limits and not in lowest terms, if there is one.
+-- What reading bytes as a number answers. Ok: they are the text of the number. Range: they are that
+-- of a triple out of the limits. Syntax: each triple with that text is within the limits and not in
+-- lowest terms, if there is one.
 abbrev pub Reads : List ℕ → Result ExactNumber NumText → Type 0
 Reads bytes (Ok n) = IsCanonical n × (number_text n ≡ bytes)
 Reads bytes (Err Range) = (x : ExactNumber) × (0 < x.d) × (number_text x ≡ bytes) × (¬ IsWithinLimits x)
-Reads bytes (Err Syntax) = (x : ExactNumber) → 0 < x.d → number_text x ≡ bytes → IsWithinLimits x × (¬ IsLowest x)
+Reads bytes (Err Syntax) = (x : ExactNumber) → 0 < x.d → number_text x ≡ bytes → IsWithinLimits x
+    × (¬ IsLowest x)

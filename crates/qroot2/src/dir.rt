@@ -1,5 +1,6 @@
 //! The sixteen directions of creases, their arithmetic and their vectors.
-ghost use Rattle.std.specs.Prelude.{◌≡◌, ℕ, ◌<◌, ◌+◌, ◌%◌, ◌*◌, ◌-◌, IsNone, ◌↔◌, ◌≤◌, IfSome, IfNone, ◌*ℤ◌, unsigned_abs};
+ghost use Rattle.std.specs.Prelude.{◌≡◌, ℕ, ◌<◌, ◌+◌, ◌%◌, ◌*◌, ◌-◌, IsNone, ◌↔◌, ◌≤◌, IfSome, IfNone, ◌*ℤ◌};
+ghost use Rattle.std.specs.Prelude.{unsigned_abs};
 ghost use Rattle.exact.specs.Plane.{vector, first_vector, turn};
 ghost use Rattle.qroot2.specs.Dir.{IsMiddle, HasOddAngle};
 ghost use Rattle.qroot2.specs.Wide.{HasUnitParts, pair_number, pair_mul};

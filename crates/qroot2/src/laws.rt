@@ -1,5 +1,5 @@
-//! Laws of the order of `Num`, on which an ordered map with such keys rests, and of its text. Each is a theorem: a
-//! function that does nothing, whose clause says what holds.
+//! Laws of the order of `Num`, on which an ordered map with such keys rests, and of its text. Each
+//! is a theorem: a function that does nothing, whose clause says what holds.
 ghost use Rattle.std.specs.Prelude.{◌≡◌, ◌<◌, ◌↔◌};
 ghost use Rattle.std.specs.Cmp.{IsTotalOrder};
 ghost use Rattle.std.specs.declared.cmp.Ordering.TheVariants.{Equal};

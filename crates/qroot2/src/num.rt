@@ -41,7 +41,8 @@ impl Num {
         requires a { unsigned_abs a ≤ 2 ^ 120 }
         requires b { unsigned_abs b ≤ 2 ^ 120 }
         requires d { (pos 0 <ℤ d) × (unsigned_abs d ≤ 2 ^ 120) }
-        ensures some { IfSome result (λ n. Same n (record { a = a; b = b; d = unsigned_abs d }) × IsCanonical n) }
+        ensures some { IfSome result
+            (λ n. Same n (record { a = a; b = b; d = unsigned_abs d }) × IsCanonical n) }
         ensures none { IfNone result (¬ IsRepresentable (record { a = a; b = b; d = unsigned_abs d })) }
     {
         let (x, y, z) = lowest(a.unsigned_abs(), b.unsigned_abs(), d.unsigned_abs());

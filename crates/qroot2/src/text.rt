@@ -1,5 +1,6 @@
 //! The text of a number, read and written.
-ghost use Rattle.std.specs.Prelude.{◌≡◌, ℕ, ℤ, ◌+◌, ◌*◌, ◌<◌, ◌≤◌, ◌^◌, ◌++◌, ◌∷◌, pos, length, take, slice_index, min, unsigned_abs, IfSome, IfNone, MatchOption, MatchResult};
+ghost use Rattle.std.specs.Prelude.{◌≡◌, ℕ, ℤ, ◌+◌, ◌*◌, ◌<◌, ◌≤◌, ◌^◌, ◌++◌, ◌∷◌, pos, length, take};
+ghost use Rattle.std.specs.Prelude.{slice_index, min, unsigned_abs, IfSome, IfNone, MatchOption, MatchResult};
 ghost use Rattle.qroot2.specs.Text.{Reads, numeral, signed_text, numerator_text, number_text};
 ghost use Rattle.exact.specs.Number.{ExactNumber, IsCanonical, IsLowest};
 ghost use Rattle.qroot2.specs.Digits.{AllDigits, AreBoth, AreSummands, Lacks, capped, capped_size, value_on};
@@ -34,7 +35,8 @@ struct Numerator {
 
 /// The value of a run of digits.
 fn digits(bytes: &[u8]) -> Option<u64>
-    ensures { MatchOption result (¬ AllDigits bytes.now) (λ v. AllDigits bytes.now × (v ≡ capped_size (value_on 0 bytes.now))) }
+    ensures { MatchOption result (¬ AllDigits bytes.now)
+        (λ v. AllDigits bytes.now × (v ≡ capped_size (value_on 0 bytes.now))) }
 {
     let mut value = 0;
     for byte in bytes {
@@ -48,7 +50,8 @@ fn digits(bytes: &[u8]) -> Option<u64>
 
 /// The value of a digit string.
 fn numeral(bytes: &[u8]) -> Option<u64>
-    ensures { MatchOption result ((n : ℕ) → numeral n ≡ bytes.now → ⊥) (λ v. (n : ℕ) × (numeral n ≡ bytes.now) × (v ≡ capped_size n)) }
+    ensures { MatchOption result ((n : ℕ) → numeral n ≡ bytes.now → ⊥)
+        (λ v. (n : ℕ) × (numeral n ≡ bytes.now) × (v ≡ capped_size n)) }
 {
     if bytes.is_empty() {
         return None;
@@ -61,7 +64,8 @@ fn numeral(bytes: &[u8]) -> Option<u64>
 
 /// The value of a digit string that may have `-` before it.
 fn signed(bytes: &[u8]) -> Option<i64>
-    ensures { MatchOption result ((z : ℤ) → signed_text z ≡ bytes.now → ⊥) (λ v. (z : ℤ) × (signed_text z ≡ bytes.now) × (v ≡ capped z)) }
+    ensures { MatchOption result ((z : ℤ) → signed_text z ≡ bytes.now → ⊥)
+        (λ v. (z : ℤ) × (signed_text z ≡ bytes.now) × (v ≡ capped z)) }
 {
     if bytes.is_empty() {
         return None;
@@ -79,7 +83,8 @@ fn signed(bytes: &[u8]) -> Option<i64>
 
 /// The place of the first byte `at`.
 fn place(bytes: &[u8], at: u8) -> Option<usize>
-    ensures some { IfSome result (λ i. (i < length bytes.now) × (slice_index bytes.now i ≡ at) × Lacks at (take i bytes.now)) }
+    ensures some { IfSome result
+        (λ i. (i < length bytes.now) × (slice_index bytes.now i ≡ at) × Lacks at (take i bytes.now)) }
     ensures none { IfNone result (Lacks at bytes.now) }
 {
     for (i, byte) in bytes.iter().enumerate() {
@@ -92,7 +97,8 @@ fn place(bytes: &[u8], at: u8) -> Option<usize>
 
 /// The bytes before the first byte `at`, and those behind it.
 fn split(bytes: &[u8], at: u8) -> Option<(&[u8], &[u8])>
-    ensures { MatchOption result (Lacks at bytes.now) (λ p. Lacks at p.0.now × (bytes.now ≡ p.0.now ++ at ∷ p.1.now)) }
+    ensures { MatchOption result (Lacks at bytes.now)
+        (λ p. Lacks at p.0.now × (bytes.now ≡ p.0.now ++ at ∷ p.1.now)) }
 {
     let i = place(bytes, at)?;
     Some((&bytes[..i], &bytes[i + 1..]))
@@ -100,7 +106,9 @@ fn split(bytes: &[u8], at: u8) -> Option<(&[u8], &[u8])>
 
 /// Two summands, neither of them 0, the second by its size.
 fn summands(whole: &[u8], root: &[u8]) -> Option<Numerator>
-    ensures { MatchOption result ((a : ℤ) (n : ℕ) → AreSummands a n whole.now root.now → ⊥) (λ v. (a : ℤ) × (n : ℕ) × AreSummands a n whole.now root.now × (v.a ≡ capped a) × (v.b ≡ pos (capped_size n))) }
+    ensures { MatchOption result ((a : ℤ) (n : ℕ) → AreSummands a n whole.now root.now → ⊥)
+        (λ v. (a : ℤ) × (n : ℕ) × AreSummands a n whole.now root.now × (v.a ≡ capped a)
+        × (v.b ≡ pos (capped_size n))) }
 {
     let a = signed(whole)?;
     let size = numeral(root)?;
@@ -112,7 +120,8 @@ fn summands(whole: &[u8], root: &[u8]) -> Option<Numerator>
 
 /// a + b √2 with b not 0, before the letter r.
 fn both(bytes: &[u8]) -> Option<Numerator>
-    ensures { MatchOption result ((a b : ℤ) → AreBoth a b bytes.now → ⊥) (λ v. (a b : ℤ) × AreBoth a b bytes.now × (v.a ≡ capped a) × (v.b ≡ capped b)) }
+    ensures { MatchOption result ((a b : ℤ) → AreBoth a b bytes.now → ⊥)
+        (λ v. (a b : ℤ) × AreBoth a b bytes.now × (v.a ≡ capped a) × (v.b ≡ capped b)) }
 {
     match split(bytes, b'+') {
         Some((whole, root)) => summands(whole, root),
@@ -123,7 +132,8 @@ fn both(bytes: &[u8]) -> Option<Numerator>
 /// The same, where no byte is `+`.
 fn below_or_alone(bytes: &[u8]) -> Option<Numerator>
     requires { Lacks 43 bytes.now }
-    ensures { MatchOption result ((a b : ℤ) → AreBoth a b bytes.now → ⊥) (λ v. (a b : ℤ) × AreBoth a b bytes.now × (v.a ≡ capped a) × (v.b ≡ capped b)) }
+    ensures { MatchOption result ((a b : ℤ) → AreBoth a b bytes.now → ⊥)
+        (λ v. (a b : ℤ) × AreBoth a b bytes.now × (v.a ≡ capped a) × (v.b ≡ capped b)) }
 {
     if bytes.is_empty() {
         return None;
@@ -145,7 +155,8 @@ fn below_or_alone(bytes: &[u8]) -> Option<Numerator>
 
 /// a + b √2.
 fn read_numerator(bytes: &[u8]) -> Option<Numerator>
-    ensures { MatchOption result ((a b : ℤ) → numerator_text a b ≡ bytes.now → ⊥) (λ v. (a b : ℤ) × (numerator_text a b ≡ bytes.now) × (v.a ≡ capped a) × (v.b ≡ capped b)) }
+    ensures { MatchOption result ((a b : ℤ) → numerator_text a b ≡ bytes.now → ⊥)
+        (λ v. (a b : ℤ) × (numerator_text a b ≡ bytes.now) × (v.a ≡ capped a) × (v.b ≡ capped b)) }
 {
     match split(bytes, b'r') {
         Some((parts, rest)) => { if rest.is_empty() { both(parts) } else { None } }
@@ -158,7 +169,9 @@ fn read_numerator(bytes: &[u8]) -> Option<Numerator>
 
 /// (a + b √2) / d, in whatever terms.
 fn read_triple(bytes: &[u8]) -> Option<Spelled>
-    ensures { MatchOption result ((x : ExactNumber) → 0 < x.d → number_text x ≡ bytes.now → ⊥) (λ v. (x : ExactNumber) × (0 < x.d) × (number_text x ≡ bytes.now) × (v.top.a ≡ capped x.a) × (v.top.b ≡ capped x.b) × (v.d ≡ capped_size x.d)) }
+    ensures { MatchOption result ((x : ExactNumber) → 0 < x.d → number_text x ≡ bytes.now → ⊥)
+        (λ v. (x : ExactNumber) × (0 < x.d) × (number_text x ≡ bytes.now) × (v.top.a ≡ capped x.a)
+        × (v.top.b ≡ capped x.b) × (v.d ≡ capped_size x.d)) }
 {
     match split(bytes, b'/') {
         None => {
@@ -196,7 +209,8 @@ fn in_lowest_terms(top: Numerator, d: u64) -> Result<Num, NumText>
     requires a { unsigned_abs top.a ≤ 2 ^ 48 }
     requires b { unsigned_abs top.b ≤ 2 ^ 48 }
     requires d { (0 < d) × (d ≤ 2 ^ 20) }
-    ensures { MatchResult result (λ n. (n ≡ record { a = top.a; b = top.b; d = d }) × IsCanonical n) (λ e. (e ≡ NumText.Syntax) × (¬ IsLowest (record { a = top.a; b = top.b; d = d }))) }
+    ensures { MatchResult result (λ n. (n ≡ record { a = top.a; b = top.b; d = d }) × IsCanonical n)
+        (λ e. (e ≡ NumText.Syntax) × (¬ IsLowest (record { a = top.a; b = top.b; d = d }))) }
 {
     match Num::new(i128::from(top.a), i128::from(top.b), i128::from(d)) {
         Some(num) => {

@@ -1,5 +1,5 @@
 //! The numbers a + b √2 with whole a and b of up to 120 bits: intermediate values, exact and never refused.
-ghost use Rattle.std.specs.Prelude.{◌≡◌, ℕ, ◌+◌, ◌*◌, ◌<◌, ◌≤◌, ◌^◌, ℤ, pos, ◌+ℤ◌, ◌-ℤ◌, neg_ℤ, unsigned_abs, ◌↔◌, IsTrue, IsFalse};
+ghost use Rattle.std.specs.Prelude.{◌≡◌, ◌+◌, ◌*◌, ◌<◌, ◌≤◌, ◌^◌, unsigned_abs, IsTrue, IsFalse};
 ghost use Rattle.qroot2.specs.Wide.{Pair, IsWithin, HasSign, pair_add, pair_sub, pair_neg};
 
 use crate::Sign;
@@ -136,7 +136,7 @@ fn sign_by_descent(a: i128, b: i128) -> Sign
 }
 
 /// Whether a is above b √2, for a and b above zero.
-#[tactic(auto, using(crate::proofs::Descent::norm_turns, crate::proofs::Descent::below_root, crate::proofs::Descent::above_root))]
+#[tactic(auto, using(exact::proofs::Root::norm_turns, exact::proofs::Root::below_root, exact::proofs::Root::above_root))]
 fn above(a: u128, b: u128) -> bool
     requires a { (0 < a) × (a ≤ 2 ^ 120) }
     requires b { (0 < b) × (b ≤ 2 ^ 120) }

@@ -1,7 +1,8 @@
 //! The text of a number, written without memory.
-ghost use Rattle.std.specs.Prelude.{◌≡◌, ℕ, ◌+◌, ◌≤◌, ◌<◌, ◌^◌, ◌++◌, ◌∷◌, [], length, unsigned_abs, ◌<ℤ◌, ◌≤ℤ◌, ◌≢◌, pos};
+ghost use Rattle.std.specs.Prelude.{◌≡◌, ◌+◌, ◌≤◌, ◌<◌, ◌^◌, ◌++◌, [], length, unsigned_abs, ◌≢◌, pos};
 ghost use Rattle.arrayvec.specs.ArrayVec.{array_vec_len};
-ghost use Rattle.qroot2.specs.Text.{numeral, both_text, signed_text, summand_text, numerator_text, denominator_text, number_text};
+ghost use Rattle.qroot2.specs.Text.{numeral, both_text, signed_text, summand_text, numerator_text};
+ghost use Rattle.qroot2.specs.Text.{denominator_text, number_text};
 
 use crate::Num;
 use arrayvec::ArrayVec;
@@ -37,7 +38,7 @@ fn push_numerator(text: &mut Text, a: i64, b: i64)
 }
 
 /// A denominator above 1, in at most 8 bytes.
-#[tactic(auto, using(crate::proofs::Decimals::short_7))]
+#[tactic(auto, using(crate::proofs::callers::Decimals::short_7))]
 fn push_denominator(text: &mut Text, d: u64)
     requires room { array_vec_len text.old ≤ 33 }
     requires d { d ≤ 2 ^ 20 }
@@ -92,7 +93,7 @@ fn push_summand(text: &mut Text, number: i64)
 }
 
 /// The decimal digits of a size within the limit, which are at most 15.
-#[tactic(auto, using(crate::proofs::Decimals::short_15))]
+#[tactic(auto, using(crate::proofs::callers::Decimals::short_15))]
 fn push_size(text: &mut Text, size: u64)
     requires room { array_vec_len text.old ≤ 26 }
     requires size { size ≤ 2 ^ 48 }
@@ -103,7 +104,7 @@ fn push_size(text: &mut Text, size: u64)
 }
 
 /// The decimal digits.
-#[tactic(auto, using(crate::proofs::Decimals::numeral_decimal))]
+#[tactic(auto, using(crate::proofs::callers::Decimals::numeral_decimal))]
 fn push_numeral(text: &mut Text, number: u64)
     requires { array_vec_len text.old + length (numeral number) ≤ 41 }
     ensures text { text.new.items ≡ text.old.items ++ numeral number }

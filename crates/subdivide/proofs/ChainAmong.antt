@@ -13,7 +13,8 @@ use Rattle.subdivide.specs.declared.edge.CutBad.TheVariants as bad
 use Rattle.plane.specs.Order.{point_cmp}
 use Rattle.subdivide.specs.Crossings.{HoldsCrossings, IsCrossing, IsChainAmong, RefusesLine, RefusesChain}
 use Rattle.subdivide.proofs.Crossings.{holds_wider}
-use Rattle.subdivide.proofs.Points.{ascends_before, all_from, same_held}
+use Rattle.subdivide.proofs.Points.{ascends_before, same_held}
+use Rattle.creases.proofs.callers.Members.{all_of}
 
 -- the two ends of s
 pub record AreEnds (s : ExactSegment) (points : List ExactPoint) : Type 0 where
@@ -48,14 +49,14 @@ pub chain_among : (s : ExactSegment) (lines : List Line) (ends points chain : Li
 chain_among s lines ends points chain e p q f g h up k n = record {
   ordered = ascends_before chain canonical up;
   canonical = canonical;
-  each = all_from (λ v. SamePoint v s.p ⊎ (SamePoint v s.q ⊎ IsCrossing s lines v)) chain (λ v c. of_point v (g v (n v c)));
+  each = all_of (λ v. SamePoint v s.p ⊎ (SamePoint v s.q ⊎ IsCrossing s lines v)) chain (λ v c. of_point v (g v (n v c)));
   from = (s.p, k s.p (f s.p e.from), same_itself s.p);
   to = (s.q, k s.q (f s.q e.to), same_itself s.q);
   all = record { each = λ i l a b. holds_wider s l.seg points chain k (h.each i l a b) };
 }
   where
     canonical : All IsPointCanonical chain
-    canonical = all_from IsPointCanonical chain (λ v c. all_canonical s lines ends points e p q g v (n v c))
+    canonical = all_of IsPointCanonical chain (λ v c. all_canonical s lines ends points e p q g v (n v c))
 
     of_point : (v : ExactPoint) → Contains ends v ⊎ (IsCrossing s lines v × IsPointCanonical v) → SamePoint v s.p ⊎ (SamePoint v s.q ⊎ IsCrossing s lines v)
     of_point v c = elim c [

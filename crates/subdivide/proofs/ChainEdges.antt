@@ -11,15 +11,9 @@ use Rattle.exact.specs.Plane.{ExactPoint}
 use Rattle.subdivide.specs.Subdivision.{EdgePlaces}
 use Rattle.subdivide.specs.Chain.{KindedBefore}
 use Rattle.subdivide.specs.declared.edge.EdgeKind.{EdgeKind}
-use Rattle.subdivide.proofs.Points.{first_less}
 use Rattle.subdivide.specs.Steps.{IsStepOf, AreStepsOf, HoldsSteps}
 use Rattle.subdivide.specs.declared.gather.Chain.{Chain}
-
-pub no_edges : (vertices : List ExactPoint) (chains : List Chain) (edges : List EdgePlaces) → edges ≡ [] → HoldsSteps vertices chains 0 edges
-no_edges vertices chains edges e = record { each = λ x h. absurd (empty x (subst (λ z. Contains z x) e h)); all = λ k d x h. absurd (omega arith) }
-  where
-    empty : (x : EdgePlaces) → Contains [] x → ⊥
-    empty x h = omega (arith, h.1)
+use Rattle.geometry.proofs.PointOrder.{first_less}
 
 -- the edges of one more chain
 pub edges_more : (vertices : List ExactPoint) (chains : List Chain) (n : ℕ) (c : Chain) (points : List ExactPoint) (old new : List EdgePlaces) → n < length chains → c ≡ get_or chains n c → points ≡ c.points.items

@@ -17,7 +17,7 @@ use Rattle.subdivide.specs.declared.edge.CutBad.{CutBad}
 use Rattle.subdivide.specs.declared.edge.CutBad.TheVariants as bad
 use Rattle.ports.specs.declared.stop.Stop.{Stop}
 use Rattle.ports.specs.declared.stop.Stop.TheVariants as stop
-use Rattle.subdivide.proofs.Extents.{segment_along}
+use Rattle.geometry.proofs.Found.{along_of}
 
 -- the point that was added is the crossing
 pub holds_pushed : (s t : ExactSegment) (at : ExactPoint) (old new : List ExactPoint) → Cross s t at → new ≡ old ++ at ∷ [] → HoldsCrossing s t new
@@ -36,7 +36,7 @@ apart_holds s t points n = record { held = λ v h. absurd (n v h.here) }
 -- segments with a common part have no single common point
 pub overlap_holds : (s t u : ExactSegment) (points : List ExactPoint) → IsSegment u → ((r : ExactPoint) → OnBoth r s t ↔ OnSeg r u) → HoldsCrossing s t points
 overlap_holds s t u points g o = record {
-  held = λ v h. (let a = segment_along u g in absurd (before_not_same u.p u.q a.1.ordered
+  held = λ v h. (let a = along_of u g in absurd (before_not_same u.p u.q a.1.ordered
       (same_trans u.p v u.q (h.only u.p ((o u.p).1 (end_p u a.0 a.1))) (same_back u.q v (h.only u.q ((o u.q).1 (end_q u a.0 a.1)))))));
 }
 
@@ -49,13 +49,6 @@ pub record AreTried (s : ExactSegment) (lines : List Line) (places : List ℕ) (
   pub keeps : (v : ExactPoint) → Contains old v → Contains new v
   pub adds : (v : ExactPoint) → Contains new v → Contains old v ⊎ (IsCrossing s lines v × IsPointCanonical v)
   pub holds : (k : ℕ) (l : Line) → slice_get lines k ≡ Some l → IsNoneFrom places i k → HoldsCrossing s l.seg new
-
-pub none_tried : (s : ExactSegment) (lines : List Line) (places : List ℕ) (old : List ExactPoint) → Covers s lines places → AreTried s lines places 0 old old
-none_tried s lines places old c = record {
-  keeps = λ v h. h;
-  adds = λ v h. inl h;
-  holds = λ k l e n. apart_holds s l.seg old (c.rest k l e (λ h. n h.0 k (omega arith) h.1 h.2));
-}
 
 pub holds_wider : (s t : ExactSegment) (now new : List ExactPoint) → ((v : ExactPoint) → Contains now v → Contains new v) → HoldsCrossing s t now → HoldsCrossing s t new
 holds_wider s t now new f h = record { held = λ v c. (let w = h.held v c in (w.0, f w.0 w.1, w.2)) }
@@ -104,10 +97,6 @@ tried_more s lines places i n old now new l u p q t e f g h = record {
   where
     apart : (k n : ℕ) → (k < n) ⊎ (n < k) → k ≡ n → ⊥
     apart k n r w = elim r [ inl o ↦ omega (arith, o, w) | inr o ↦ omega (arith, o, w) ]
-
--- all lines have been tried
-pub tried_end : (s : ExactSegment) (lines : List Line) (places : List ℕ) (i : ℕ) (old now : List ExactPoint) → AreTried s lines places i old now → length places ≤ i → HoldsCrossings s lines (length lines) now
-tried_end s lines places i old now t h = record { each = λ k m p q. t.holds k m q (λ j d x y w. omega (arith, x, y, h)) }
 
 -- those before the i-th place have been tried
 pub tried_before : (s : ExactSegment) (lines : List Line) (places : List ℕ) (i n : ℕ) (old now : List ExactPoint) → Covers s lines places → IsPlace places i n → AreTried s lines places i old now → HoldsCrossings s lines n now

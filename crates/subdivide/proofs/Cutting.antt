@@ -15,39 +15,13 @@ use Rattle.subdivide.specs.Subdivision.{lines, IsLine, IsVertex, IsEdge, EdgePla
 use Rattle.subdivide.specs.declared.edge.EdgeKind.{EdgeKind}
 use Rattle.exact.proofs.Order.{num_exact, num_total}
 use Rattle.chains.specs.Chains.{Ascends, AreNeighbours}
-use Rattle.chains.proofs.Neighbours.{neighbours_next, next_neighbours}
+use Rattle.chains.proofs.callers.Neighbours.{neighbours_next, next_neighbours}
 use Rattle.geometry.specs.Meeting.{Along}
 use Rattle.subdivide.specs.Chain.{AreLines, IsFound, IsChain, InChain, IsStep, AreSteps, KindedBefore}
 use Rattle.geometry.proofs.Lines.{on_trans, on_same}
 use Rattle.geometry.proofs.Segments.{on_line, on_seg, end_p, end_q}
 use Rattle.geometry.proofs.PointOrder.{point_real_cmp, points_total, before_cmp, before_not_same, same_back, same_before, before_same, ordered, same_trans}
-
--- one triple or two
-exact_or_not : (x y : ExactNumber) → (x ≡ y) ⊎ (x ≢ y)
-exact_or_not x y = by (num_cmp x y) refl
-  where
-    by : (r : Ordering) → num_cmp x y ≡ r → (x ≡ y) ⊎ (x ≢ y)
-    by o.Equal e = inl (num_exact x y e)
-    by o.Less e = inr (λ q. let f = ap (λ z. num_cmp x z) q in let g = tied_itself num_total x in absurd (cc))
-    by o.Greater e = inr (λ q. let f = ap (λ z. num_cmp x z) q in let g = tied_itself num_total x in absurd (cc))
-
-point_or_not : (p q : ExactPoint) → (p ≡ q) ⊎ (p ≢ q)
-point_or_not p q = elim (exact_or_not p.x q.x) [
-  | inr n ↦ inr (λ e. n (ap (λ (s : ExactPoint). s.x) e))
-  | inl a ↦ elim (exact_or_not p.y q.y) [ inr n ↦ inr (λ e. n (ap (λ (s : ExactPoint). s.y) e)) | inl b ↦ inl (made p.x q.x p.y q.y a b) ]
-]
-  where
-    made : (x x' y y' : ExactNumber) → x ≡ x' → y ≡ y' → (let s : ExactPoint = record { x = x; y = y } in s) ≡ record { x = x'; y = y' }
-    made x x' y y' a b = cc
-
-pub segment_or_not : (s t : ExactSegment) → (s ≡ t) ⊎ (s ≢ t)
-segment_or_not s t = elim (point_or_not s.p t.p) [
-  | inr n ↦ inr (λ e. n (ap (λ (r : ExactSegment). r.p) e))
-  | inl a ↦ elim (point_or_not s.q t.q) [ inr n ↦ inr (λ e. n (ap (λ (r : ExactSegment). r.q) e)) | inl b ↦ inl (made s.p t.p s.q t.q a b) ]
-]
-  where
-    made : (p p' q q' : ExactPoint) → p ≡ p' → q ≡ q' → (let s : ExactSegment = record { p = p; q = q } in s) ≡ record { p = p'; q = q' }
-    made p p' q q' a b = cc
+use Rattle.creases.proofs.callers.Members.{segment_or_not}
 
 -- another triple of a point of a segment is on it
 pub on_seg_moved : (s : ExactSegment) (k : ℕ) (r w : ExactPoint) → Along s k → SamePoint r w → OnSeg r s → OnSeg w s

@@ -9,7 +9,7 @@ use Rattle.exact.specs.Number.{ExactNumber, Same, Less, sub}
 use Rattle.exact.specs.Order.{real_cmp}
 use Rattle.exact.specs.Plane.{ExactPoint, ExactSegment, IsSegment, OnSeg, OnBoth, vector}
 use Rattle.exact.proofs.Positive.{less_trans}
-use Rattle.exact.proofs.Order.{linear, real_total, real_less, real_equal, less_of}
+use Rattle.exact.proofs.Order.{linear, real_total, real_less, real_equal, less_of, less_moved}
 use Rattle.geometry.specs.Root.{Root, plus, times, minus, count, Above}
 use Rattle.geometry.specs.Gap.{num, dn, gx, gy, cross}
 use Rattle.geometry.specs.Meeting.{Along, SameSide}
@@ -18,10 +18,12 @@ use Rattle.geometry.proofs.Domain.{above_times}
 use Rattle.geometry.proofs.Gap.{dn_above, less_num}
 use Rattle.geometry.proofs.Directions.{not_parallel, right_half, one_direction}
 use Rattle.geometry.proofs.Lines.{On, on_same, cross_back}
-use Rattle.geometry.proofs.Plain.{flat_on}
-use Rattle.geometry.proofs.PointOrder.{less_not_same, less_not_back, same_itself}
+use Rattle.geometry.proofs.Plain.{flat_on, flat_cross}
+use Rattle.geometry.proofs.PointOrder.{same_itself}
 use Rattle.geometry.proofs.Segments.{on_line, ahead, end_on, within}
 use Rattle.subdivide.specs.Crossings.{LiesBelow, AreBeside, AreAtHeights}
+use Rattle.geometry.proofs.Found.{along_of}
+use Rattle.exact.proofs.Told.{less_not_back, less_not_same}
 
 -- what the comparison of two numbers tells
 pub less_test : (x y : ExactNumber) (b : Bool) → b ≡ is_lt (real_cmp x y) → IsTrue b ↔ Less x y
@@ -31,19 +33,6 @@ less_test x y b e = (λ t. less_of x y (is_less (real_cmp x y) (sym e ∙ t)), �
     is_less o.Less h = refl
     is_less o.Equal h = absurd (false≢true h)
     is_less o.Greater h = absurd (false≢true h)
-
-pub same_less : (x y z : ExactNumber) → Same x y → Less x z → Less y z
-same_less x y z s h = less_of y z (sym (real_total.congr x y z (real_equal x y s)) ∙ real_less x z h)
-
-pub segment_along : (s : ExactSegment) → IsSegment s → (k : ℕ) × Along s k
-segment_along s h = (h.1.0, record { small = h.1.1; ordered = h.0; dir = h.1.2 })
-
-flat_cross : (p r : ExactPoint) → cross (vector 0) p r ≡ gy p r
-unfolding cross num count
-flat_cross p r = flat (gx p r) (gy p r)
-  where
-    flat : (x y : Root) → plus (times (count 1) y) (minus (times (count 0) x)) ≡ y
-    flat x y = solve (x ∷ y ∷ []) (add (mul one (at 1)) (opp (mul none (at 0)))) (at 1) refl
 
 -- a higher point is on the left of the way to the right
 pub higher : (p r : ExactPoint) → Less p.y r.y → Above (cross (vector 0) p r)
@@ -86,24 +75,24 @@ left_apart : (s t : ExactSegment) (r : ExactPoint) → Less s.q.x t.p.x → OnSe
 left_apart s t r l a b = elim (linear s.q.x r.x) [
   | inl h ↦ a.to (inl h)
   | inr k ↦ elim k [
-    | inl e ↦ b.from (inl (same_less s.q.x r.x t.p.x e l))
+    | inl e ↦ b.from (inl (less_moved s.q.x r.x t.p.x e l))
     | inr h ↦ b.from (inl (less_trans r.x s.q.x t.p.x h l))
   ]
 ]
 
 below_apart : (s t : ExactSegment) (r : ExactPoint) → IsSegment s → IsSegment t → LiesBelow s t → OnSeg r s → OnSeg r t → ⊥
-below_apart s t r x y l a b = (let u = segment_along s x in let v = segment_along t y in
+below_apart s t r x y l a b = (let u = along_of s x in let v = along_of t y in
     let m = between s u.0 r u.1 a in let n = between t v.0 r v.1 b in
     elim (linear s.p.y r.y) [
       | inl h ↦ elim (linear s.q.y r.y) [
         | inl g ↦ m.0 (h, g)
         | inr k ↦ elim k [
-          | inl e ↦ n.1 (same_less s.q.y r.y t.p.y e l.2, same_less s.q.y r.y t.q.y e l.3)
+          | inl e ↦ n.1 (less_moved s.q.y r.y t.p.y e l.2, less_moved s.q.y r.y t.q.y e l.3)
           | inr g ↦ n.1 (less_trans r.y s.q.y t.p.y g l.2, less_trans r.y s.q.y t.q.y g l.3)
         ]
       ]
       | inr k ↦ elim k [
-        | inl e ↦ n.1 (same_less s.p.y r.y t.p.y e l.0, same_less s.p.y r.y t.q.y e l.1)
+        | inl e ↦ n.1 (less_moved s.p.y r.y t.p.y e l.0, less_moved s.p.y r.y t.q.y e l.1)
         | inr g ↦ n.1 (less_trans r.y s.p.y t.p.y g l.0, less_trans r.y s.p.y t.q.y g l.1)
       ]
     ])

@@ -46,9 +46,6 @@ held_more lines n old new chain l e c q h = record {
     equal : (k n : ℕ) → k < n + 1 → n ≤ k → n ≡ k
     equal k n p r = omega arith
 
-chain_is : {s t : Chain} → Some s ≡ Some t → s ≡ t
-chain_is e = cc
-
 -- one more chain
 chains_more : (lines : List Line) (n : ℕ) (chains more : List Chain) (old new : List ExactPoint) (c : Chain) (l : Line) → slice_get lines n ≡ Some l → c.kind ≡ l.kind → IsChainAmong l.seg lines c.points.items → more ≡ chains ++ c ∷ [] → new ≡ old ++ c.points.items
     → AreChains lines n chains old → AreChains lines (n + 1) more new

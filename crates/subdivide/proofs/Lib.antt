@@ -1,6 +1,6 @@
+pub mod callers
 pub mod PatternLines
 pub mod Cutting
-pub mod Range
 mod Extents
 mod Sided
 mod Ordered
@@ -15,11 +15,9 @@ mod ChainAmong
 mod Gathered
 mod Steps
 mod ChainEdges
-pub mod OneAnswer
 mod Known
 pub mod FanRays
 pub mod Rays
 pub mod Noting
-pub mod FansHeld
 pub mod StarsKept
 pub mod OneStar

@@ -8,16 +8,13 @@ use Rattle.sheet.specs.Sheet.{ExactSheet, sides}
 use Rattle.sheet.specs.Pattern.{ExactCrease, ExactPattern}
 use Rattle.subdivide.specs.Subdivision.{Line, lines, kind_of}
 use Rattle.subdivide.specs.declared.edge.EdgeKind.TheVariants as kind
-use Rattle.subdivide.proofs.Range.{Stands, some_crease}
+use Rattle.subdivide.proofs.callers.Range.{Stands, some_crease}
 
 abbrev side_lines : ExactSheet → List Line
 side_lines sheet = map (λ (s : ExactSegment). (let l : Line = record { seg = s; kind = kind.B } in l)) (sides sheet)
 
 abbrev of_crease : ExactCrease → Line
 of_crease f = record { seg = f.seg; kind = kind_of f.colour }
-
-lines_are : (pattern : ExactPattern) → lines pattern ≡ side_lines pattern.sheet ++ map of_crease pattern.creases
-lines_are pattern = refl
 
 lines_length : (pattern : ExactPattern) → length (lines pattern) ≡ 4 + length pattern.creases
 lines_length pattern = length-append (side_lines pattern.sheet) (map of_crease pattern.creases) ∙ ap (λ n. 4 + n) (length-map pattern.creases of_crease)

@@ -7,7 +7,7 @@ use Rattle.exact.specs.Plane.{ExactPoint}
 use Rattle.sheet.specs.Pattern.{ExactPattern}
 use Rattle.layers.specs.Star.{ray_at, Ascends}
 use Rattle.layers.specs.declared.star.Ray.{Ray}
-use Rattle.chains.proofs.Sorted.{same_lists}
+use Rattle.chains.proofs.callers.Sorted.{same_lists}
 use Rattle.subdivide.specs.Star.{GoesOut, StarOf}
 
 rising : (rays : List Ray) → Ascends rays → (n i : ℕ) → i + 1 + n < length rays → (ray_at rays i).dir < (ray_at rays (i + 1 + n)).dir

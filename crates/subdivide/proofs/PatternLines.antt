@@ -20,12 +20,13 @@ use Rattle.geometry.specs.Gap.{cross}
 use Rattle.geometry.proofs.Solve.{none, opp, solve}
 use Rattle.geometry.proofs.Domain.{sign_of, above_not_zero}
 use Rattle.geometry.proofs.Directions.{right_half, one_direction}
-use Rattle.geometry.proofs.PointOrder.{before_not_same}
+use Rattle.geometry.proofs.PointOrder.{before_not_same, same_itself as point_self}
 use Rattle.geometry.proofs.Lines.{On, on_trans}
 use Rattle.geometry.proofs.Segments.{one_common, none_common, ahead, end_on, end_p, end_q, covered}
 use Rattle.exact.proofs.Order.{same_turned}
 use Rattle.exact.proofs.Told.{same_itself, same_on, less_not_same}
 use Rattle.plane.proofs.callers.Sides.{SideCase, side_case, upright, flat, upright_in, flat_in, upright_along, flat_along, on_upright, on_flat, of_upright, of_flat, zero_less}
+use Rattle.creases.proofs.callers.Overlaps.{overlap_back}
 
 pub contains_map : {X Y : Type 0} (g : X → Y) (xs : List X) (y : Y) (d : X) → Contains (map g xs) y → (x : X) × Contains xs x × (g x ≡ y)
 contains_map g xs y d c = (let h : c.0 < length xs = omega (arith, c.1, length-map xs g) in
@@ -141,9 +142,6 @@ line_along pattern p s l = by (line_case pattern s l.0 l.1)
     by (LineCase.is_side c e) = side_along pattern.sheet s p.sheet (side_case pattern.sheet s c)
     by (LineCase.is_crease f c e g) = subst (λ z. (k : ℕ) × Along z k) e (key_along pattern.sheet f.seg (key_of pattern p f c))
 
-point_self : (p : ExactPoint) → SamePoint p p
-point_self p = record { x = same_itself p.x; y = same_itself p.y }
-
 corner_is : (sheet : ExactSheet) (i j : ℕ) → i < 2 → j < 2 → IsCorner sheet (corner sheet i j)
 corner_is sheet zero zero h k = inl refl
 corner_is sheet zero (suc zero) h k = inr (inl refl)
@@ -197,9 +195,6 @@ side_key sheet good s t c h o = by (side_case sheet s c)
     by : SideCase sheet s → ⊥
     by (SideCase.at_upright i l e) = against (upright sheet i) 4 e (upright_along sheet i good) (upright_in sheet i l) (λ r m n. at_upright_line sheet i r good m n)
     by (SideCase.at_flat i l e) = against (flat sheet i) 0 e (flat_along sheet i good) (flat_in sheet i l) (λ r m n. at_flat_line sheet i r good m n)
-
-overlap_back : (s t : ExactSegment) → Overlap s t → Overlap t s
-overlap_back s t o = (o.0, o.1, o.2, (o.3.1, o.3.0), (o.4.1, o.4.0))
 
 -- two places of creases with one segment, or with overlapping ones, are one
 one_crease : (pattern : ExactPattern) → IsPattern pattern → (f g : ExactCrease) (i j : ℕ) → i < length pattern.creases → j < length pattern.creases → get_or pattern.creases i f ≡ f → get_or pattern.creases j g ≡ g → Overlap f.seg g.seg → f ≡ g

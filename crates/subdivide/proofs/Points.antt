@@ -8,12 +8,7 @@ use Rattle.std.proofs.lemmas.List.Elements.{All-get_or, All-weaker, All-contains
 use Rattle.exact.specs.Plane.{ExactPoint, SamePoint, Before, IsPointCanonical, IsPointRepresentable}
 use Rattle.chains.specs.Chains.{Ascends}
 use Rattle.plane.specs.Order.{point_cmp}
-use Rattle.plane.proofs.Orders.{point_less}
-
-pub first_less : (r s : Ordering) → ordering_then r s ≡ o.Less → (r ≡ o.Less) ⊎ ((r ≡ o.Equal) × (s ≡ o.Less))
-first_less o.Less s e = inl refl
-first_less o.Equal s e = inr (refl, e)
-first_less o.Greater s e = absurd (cc)
+use Rattle.plane.proofs.callers.Orders.{point_less}
 
 -- a list that ascends as the program compares ascends
 pub ascends_before : (vs : List ExactPoint) → All IsPointCanonical vs → Ascends point_cmp vs → AllPairs Before vs
@@ -21,9 +16,6 @@ ascends_before vs c up i j d h l = (point_less (get_or vs i d) (get_or vs j d) (
   where
     lt_trans : (i j : ℕ) → i < j → j < length vs → i < length vs
     lt_trans i j h l = omega arith
-
-pub all_from : {X : Type 0} (P : X → Type 0) (xs : List X) → ((x : X) → Contains xs x → P x) → All P xs
-all_from P xs f = All-weaker (Contains xs) P f xs (All-contains_itself xs)
 
 -- a point that stands in the list by other numbers can be held
 pub same_held : (v w : ExactPoint) → SamePoint v w → IsPointCanonical w → IsPointRepresentable v

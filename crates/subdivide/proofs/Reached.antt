@@ -18,15 +18,15 @@ use Rattle.geometry.specs.Root.{minus, Above}
 use Rattle.geometry.specs.Gap.{cross}
 use Rattle.geometry.specs.Meeting.{Along, SameSide}
 use Rattle.geometry.proofs.Lines.{cross_back}
-use Rattle.geometry.proofs.Found.{one_along}
+use Rattle.geometry.proofs.Found.{one_along, along_half}
 use Rattle.chains.specs.Chains.{Ascends}
 use Rattle.subdivide.specs.Crossings.{Covers}
 use Rattle.subdivide.specs.Subdivision.{Line}
 use Rattle.subdivide.specs.Strips.{line_order, through, line_held, IsHeldOf, AreStrips, AreRightAndLeft, ReachesAll}
 use Rattle.subdivide.specs.declared.strips.Held.{Held}
 use Rattle.subdivide.proofs.Crossings.{some_is}
-use Rattle.subdivide.proofs.Points.{all_from}
 use Rattle.subdivide.proofs.Sided.{turn_less, aside_apart}
+use Rattle.creases.proofs.callers.Members.{all_of}
 
 -- x is below one that is at most y
 below_most : (x y z : ExactNumber) → Less x y → ¬ Less z y → Less x z
@@ -101,9 +101,6 @@ pub record AreAdded (s : ExactSegment) (lines : List Line) (list : List Held) (f
   pub within : (n : ℕ) → Contains now n → Contains old n ⊎ (n < length lines)
   pub each : (j : ℕ) (h : Held) (l : Line) → from ≤ j → j < i → h ≡ get_or list j h → slice_get lines h.place ≡ Some l → Contains now h.place ⊎ ((r : ExactPoint) → ¬ OnBoth r s l.seg)
 
-pub none_added : (s : ExactSegment) (lines : List Line) (list : List Held) (from : ℕ) (old : List ℕ) → AreAdded s lines list from from old old
-none_added s lines list from old = record { keeps = λ n h. h; within = λ n h. inl h; each = λ j h l a b. absurd (omega (arith, a, b)) }
-
 kept : (s : ExactSegment) (l : Line) (n : ℕ) (now new : List ℕ) → ((n : ℕ) → Contains now n → Contains new n) → Contains now n ⊎ ((r : ExactPoint) → ¬ OnBoth r s l.seg) → Contains new n ⊎ ((r : ExactPoint) → ¬ OnBoth r s l.seg)
 kept s l n now new f h = elim h [ inl c ↦ inl (f n c) | inr a ↦ inr a ]
 
@@ -160,9 +157,6 @@ pub record AreReached (s : ExactSegment) (lines : List Line) (k : ℕ) (now : Li
   pub within : (n : ℕ) → Contains now n → n < length lines
   pub each : (j : ℕ) → j < k → ReachesAll s lines j now
 
-pub none_reached : (s : ExactSegment) (lines : List Line) (now : List ℕ) → now ≡ [] → AreReached s lines 0 now
-none_reached s lines now e = record { within = λ n h. absurd (omega (arith, h.1, ap length e)); each = λ j h. absurd (omega arith) }
-
 wider : (s : ExactSegment) (lines : List Line) (k : ℕ) (now new : List ℕ) → ((n : ℕ) → Contains now n → Contains new n) → ReachesAll s lines k now → ReachesAll s lines k new
 wider s lines k now new f g n l e a c = g n l e a (λ h. c (f n h))
 
@@ -178,12 +172,19 @@ one_reached s lines k j now new a e f g r = record {
     same : (i : ℕ) → i < k + 1 → k ≤ i → j ≡ i
     same i p q = omega (arith, p, q, e)
 
+-- no line leads along a direction to earlier points
+pub none_behind : (s : ExactSegment) (lines : List Line) (k : ℕ) (now : List ℕ) → 5 ≤ k → k ≤ 12 → ReachesAll s lines k now
+none_behind s lines k now h g n l e a c r = elim (along_half l.seg k a) [
+  | inl f ↦ absurd (omega (arith, f, h))
+  | inr f ↦ absurd (omega (arith, f, g))
+]
+
 -- after all directions the places in order are those of all lines that can meet the segment
 pub all_covered : (s : ExactSegment) (lines : List Line) (k : ℕ) (now new : List ℕ) → AreReached s lines k now → 16 ≤ k → ((l : Line) (n : ℕ) → slice_get lines n ≡ Some l → (j : ℕ) × Along l.seg j)
     → Ascends nat_cmp new → ((n : ℕ) → Contains now n → Contains new n) → ((n : ℕ) → Contains new n → Contains now n) → Covers s lines new
 all_covered s lines k now new a done along up f g = record {
   ascends = up;
-  within = all_from (λ n. n < length lines) new (λ n h. a.within n (g n h));
+  within = all_of (λ n. n < length lines) new (λ n h. a.within n (g n h));
   rest = λ n l e c. (let w = along l n e in a.each w.0 (omega (arith, w.1.small, done)) n l e w.1 (λ h. c (f n h)));
 }
 

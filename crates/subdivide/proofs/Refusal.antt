@@ -13,7 +13,7 @@ use Rattle.subdivide.specs.Lines.{AreLinesOf, RefusesPairFirst}
 use Rattle.subdivide.proofs.Crossings.{line_in}
 use Rattle.subdivide.proofs.LinePlaces.{side_place, crease_place, line_of}
 use Rattle.subdivide.proofs.PatternLines.{line_along, map_contains}
-use Rattle.subdivide.proofs.Range.{Stands, earlier, first_out, some_crease}
+use Rattle.subdivide.proofs.callers.Range.{Stands, earlier, first_out, some_crease}
 use Rattle.subdivide.proofs.SideRange.{side_in_range, no_self_cross}
 
 cross_back : (s t : ExactSegment) (v : ExactPoint) → Cross s t v → Cross t s v

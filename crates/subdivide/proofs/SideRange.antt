@@ -12,7 +12,7 @@ use Rattle.geometry.proofs.Domain.{above_times, above_not_minus, above_not_zero,
 use Rattle.geometry.proofs.Gap.{dn_above, less_num}
 use Rattle.geometry.proofs.Directions.{right_half, one_direction}
 use Rattle.geometry.proofs.Lines.{On, cross_back, minus_minus}
-use Rattle.geometry.proofs.Plain.{flat_on, upright_on}
+use Rattle.geometry.proofs.Plain.{flat_on, upright_on, upright_cross}
 use Rattle.geometry.proofs.PointOrder.{ordered, before_not_same, same_back, same_trans}
 use Rattle.geometry.proofs.Segments.{beside, none_common, end_p, end_q, ahead}
 use Rattle.plane.proofs.callers.Sides.{SideCase, side_case, upright, flat, upright_along, flat_along, at_least, at_most, corner_canonical, corner_in}
@@ -22,13 +22,6 @@ use Rattle.subdivide.specs.Subdivision.{IsLine}
 use Rattle.subdivide.proofs.Extents.{higher, lower}
 use Rattle.subdivide.proofs.PatternLines.{LineCase, line_case, at_upright_line, at_flat_line, parallel_or_not, key_of, line_along, lines_apart}
 use Rattle.subdivide.proofs.Points.{same_held}
-
-upright_cross : (p r : ExactPoint) → cross (vector 4) p r ≡ minus (gx p r)
-unfolding cross num count
-upright_cross p r = upright (gx p r) (gy p r)
-  where
-    upright : (x y : Root) → plus (times (count 0) y) (minus (times (count 1) x)) ≡ minus x
-    upright x y = solve (x ∷ y ∷ []) (add (mul none (at 1)) (opp (mul one (at 0)))) (opp (at 0)) refl
 
 righter : (p r : ExactPoint) → Less p.x r.x → Above (minus (cross (vector 4) p r))
 unfolding gx

@@ -16,26 +16,18 @@ use Rattle.geometry.proofs.Gap.{num_sub, less_num}
 use Rattle.geometry.proofs.Lines.{On, on_back, cross_back, cross_is, minus_zero}
 use Rattle.geometry.proofs.Directions.{one_direction}
 use Rattle.geometry.proofs.Segments.{beside, none_common}
-use Rattle.geometry.proofs.Found.{along_half}
+use Rattle.geometry.proofs.Found.{along_half, along_of}
 use Rattle.qroot2.specs.declared.sign.Sign.{Sign}
 use Rattle.qroot2.specs.declared.sign.Sign.TheVariants as sign
 use Rattle.plane.specs.Sides.{IsSide}
-use Rattle.plane.proofs.Supports.{turn_num, turn_dn, turn_same}
-use Rattle.plane.proofs.Turns.{side_cross}
+use Rattle.plane.proofs.callers.Supports.{turn_num, turn_dn, turn_same, cross_terms}
+use Rattle.plane.proofs.callers.Turns.{side_cross}
 use Rattle.subdivide.specs.Strips.{order_across}
-use Rattle.subdivide.proofs.Extents.{segment_along}
-
-apart_terms : (vx vy px py dpx dpy rx ry drx dry : Root) →
-    plus (times (plus (times vx (times ry drx)) (minus (times vy (times rx dry)))) (times dpx dpy)) (minus (times (plus (times vx (times py dpx)) (minus (times vy (times px dpy)))) (times drx dry)))
-    ≡ plus (times vx (times (plus (times ry dpy) (minus (times py dry))) (times drx dpx))) (minus (times vy (times (plus (times rx dpx) (minus (times px drx))) (times dry dpy))))
-apart_terms vx vy px py dpx dpy rx ry drx dry = solve (vx ∷ vy ∷ px ∷ py ∷ dpx ∷ dpy ∷ rx ∷ ry ∷ drx ∷ dry ∷ [])
-    (add (mul (add (mul (at 0) (mul (at 7) (at 8))) (opp (mul (at 1) (mul (at 6) (at 9))))) (mul (at 4) (at 5))) (opp (mul (add (mul (at 0) (mul (at 3) (at 4))) (opp (mul (at 1) (mul (at 2) (at 5))))) (mul (at 8) (at 9)))))
-    (add (mul (at 0) (mul (add (mul (at 7) (at 5)) (opp (mul (at 3) (at 9)))) (mul (at 8) (at 4)))) (opp (mul (at 1) (mul (add (mul (at 6) (at 4)) (opp (mul (at 2) (at 8)))) (mul (at 9) (at 5)))))) refl
 
 -- the turns to two points differ by the turn of the way between them
 turns_gap : (k : ℕ) (p r : ExactPoint) → num (sub (turn (vector k) r) (turn (vector k) p)) ≡ cross (vector k) p r
 turns_gap k p r = num_sub (turn (vector k) r) (turn (vector k) p) ∙ rw (turn_num k r, turn_num k p, turn_dn k p, turn_dn k r)
-    (apart_terms (num (vector k).x) (num (vector k).y) (num p.x) (num p.y) (dn p.x) (dn p.y) (num r.x) (num r.y) (dn r.x) (dn r.y) ∙ sym (cross_is (vector k) p r))
+    (cross_terms (num (vector k).x) (num (vector k).y) (num p.x) (num p.y) (dn p.x) (dn p.y) (num r.x) (num r.y) (dn r.x) (dn r.y) ∙ sym (cross_is (vector k) p r))
 
 -- the turn to r is the greater one exactly where r is on the left of the line through p
 pub turn_less : (k : ℕ) (p r : ExactPoint) → Less (turn (vector k) p) (turn (vector k) r) ↔ Above (cross (vector k) p r)
@@ -53,7 +45,7 @@ side_order k p r sign.Minus h = real_greater (turn (vector k) p) (turn (vector k
 
 -- a segment with both ends strictly on one side of the line of another has no point of it
 pub aside_apart : (s t : ExactSegment) (k : ℕ) → IsSegment s → Along t k → SameSide (cross (vector k) t.p s.p) (cross (vector k) t.p s.q) → (r : ExactPoint) → ¬ OnBoth r s t
-aside_apart s t k i b h r = by (segment_along s i)
+aside_apart s t k i b h r = by (along_of s i)
   where
     unequal : (m n : ℕ) → (m < n) ⊎ (n < m) → m ≢ n
     unequal m n c e = elim c [ inl l ↦ omega (arith, e, l) | inr l ↦ omega (arith, e, l) ]

@@ -8,13 +8,13 @@ use Rattle.sheet.specs.Pattern.{ExactPattern}
 use Rattle.layers.specs.declared.star.Ray.{Ray}
 use Rattle.chains.specs.Chains.{Ascends}
 use Rattle.plane.specs.Order.{point_cmp}
-use Rattle.plane.proofs.Orders.{point_less, point_unique}
+use Rattle.plane.proofs.callers.Orders.{point_less, point_unique}
 use Rattle.subdivide.specs.Subdivision.{IsVertex, ExactSubdivision, AreVertices}
 use Rattle.subdivide.specs.Star.{GoesOut, StarOf}
 use Rattle.subdivide.specs.Live.{IsCut}
 use Rattle.subdivide.specs.Fans.{HasRay, AreRaysOf, IsLive}
 use Rattle.subdivide.specs.declared.stars.Fan.{Fan}
-use Rattle.subdivide.proofs.Points.{all_from}
+use Rattle.creases.proofs.callers.Members.{all_of}
 
 -- a list that ascends ascends as the program compares
 pub before_ascends : (vs : List ExactPoint) → All IsPointCanonical vs → AllPairs Before vs → Ascends point_cmp vs
@@ -30,7 +30,7 @@ pub kept_star : (pattern : ExactPattern) (cut : ExactSubdivision) (fans : List F
     → fan ≡ get_or fans i fan → AreRaysOf fan rays → StarOf pattern v rays
 kept_star pattern cut fans v i fan rays l h at is a = record {
   star = a.star;
-  each = all_from (GoesOut pattern v) rays (λ r c. (l.rays.rays i fan v r stands).0 (subst (λ z. HasRay z r) is ((a.are r).0 c)));
+  each = all_of (GoesOut pattern v) rays (λ r c. (l.rays.rays i fan v r stands).0 (subst (λ z. HasRay z r) is ((a.are r).0 c)));
   all = λ r g. (a.are r).1 (subst (λ z. HasRay z r) (sym is) ((l.rays.rays i fan v r stands).1 g));
 }
   where

@@ -1,5 +1,5 @@
 -- The loop over a chain that adds the edges between neighbours.
-use Rattle.std.proofs.Common.{◌≡◌, ℕ, ◌+◌, ◌-◌, ◌<◌, ◌≤◌, List, [], ◌∷◌, ◌++◌, length, get_or, max, arith, sym, ap, subst, ◌∙◌, inl, inr}
+use Rattle.std.proofs.Common.{◌≡◌, ℕ, ◌+◌, ◌-◌, ◌<◌, ◌≤◌, List, [], ◌∷◌, ◌++◌, length, get_or, arith, sym, ap, subst, ◌∙◌, inl, inr}
 use Rattle.std.specs.Prelude.{Contains, All}
 use Rattle.std.specs.declared.cmp.Ordering.{Ordering}
 use Rattle.std.specs.Cmp.{IsTotalOrder}
@@ -11,7 +11,7 @@ use Rattle.chains.specs.Chains.{Ascends}
 use Rattle.subdivide.specs.Subdivision.{EdgePlaces}
 use Rattle.subdivide.specs.declared.edge.EdgeKind.{EdgeKind}
 use Rattle.subdivide.specs.Steps.{IsStepOf, AreStepsOf}
-use Rattle.chains.proofs.Neighbours.{one_place}
+use Rattle.chains.proofs.callers.Neighbours.{one_place}
 
 pub found_at : (xs chain : List ExactPoint) (i : ℕ) (r : ExactPoint) → All (Contains xs) chain → i < length chain → r ≡ get_or chain i r → Contains xs r
 found_at xs chain i r a h e = subst (Contains xs) (sym e) (All-get_or (Contains xs) chain i r h a)
@@ -19,12 +19,48 @@ found_at xs chain i r a h e = subst (Contains xs) (sym e) (All-get_or (Contains 
 pub wider : (xs chain : List ExactPoint) (m n : ℕ) (kind : EdgeKind) (e : EdgePlaces) → m ≤ n → IsStepOf xs chain m kind e → IsStepOf xs chain n kind e
 wider xs chain m n kind e h s = record { place = s.place; within = omega (arith, s.within, h); from = s.from; to = s.to; from_in = s.from_in; to_in = s.to_in; kind_is = s.kind_is }
 
+-- none among none
+pub no_steps : (xs chain : List ExactPoint) (kind : EdgeKind) (old : List EdgePlaces) → AreStepsOf xs chain 0 kind old old
+no_steps xs chain kind old = record {
+  keeps = λ e c. c;
+  each = λ e c. inl c;
+  all = λ e s. absurd (omega (arith, s.within));
+}
+
 -- none before the first
-pub no_steps : (xs chain : List ExactPoint) (kind : EdgeKind) (old : List EdgePlaces) → AreStepsOf xs chain 1 kind old old
-no_steps xs chain kind old = record { keeps = λ e c. c; each = λ e c. inl c; all = λ e s. absurd (omega (arith, s.within)) }
+pub none_first : (xs chain : List ExactPoint) (n : ℕ) (kind : EdgeKind) (old new : List EdgePlaces) → n ≤ 0
+    → AreStepsOf xs chain n kind old new → AreStepsOf xs chain (n + 1) kind old new
+none_first xs chain n kind old new h s = record {
+  keeps = s.keeps;
+  each = λ e c. elim (s.each e c) [ inl x ↦ inl x | inr x ↦ absurd (omega (arith, h, x.within)) ];
+  all = λ e x. absurd (omega (arith, h, x.within));
+}
+
+-- the point before the n-th of the chain stands at this place
+pub record IsLast (xs chain : List ExactPoint) (n place : ℕ) : Type 0 where
+  pub within : 0 < n → place < length xs
+  pub is : 0 < n → (d : ExactPoint) → get_or xs place (get_or chain (n - 1) d) ≡ get_or chain (n - 1) d
+
+pub none_last : (xs chain : List ExactPoint) (place : ℕ) → IsLast xs chain 0 place
+none_last xs chain place = record { within = λ h. absurd (omega (arith, h)); is = λ h d. absurd (omega (arith, h)) }
+
+pub now_last : (xs chain : List ExactPoint) (n place : ℕ) (u : ExactPoint) → n < length chain → place < length xs
+    → u ≡ get_or chain n u → get_or xs place u ≡ u → IsLast xs chain (n + 1) place
+now_last xs chain n place u p q e h = record {
+  within = λ _. q;
+  is = λ _ d. subst (λ z. get_or xs place z ≡ z) (sym (at d)) h;
+}
+  where
+    before : n + 1 - 1 ≡ n
+    before = omega arith
+
+    at : (d : ExactPoint) → get_or chain (n + 1 - 1) d ≡ u
+    at d = ap (λ i. get_or chain i d) before ∙ get_or_default chain n d u p ∙ sym e
 
 -- after the last
-pub all_steps : (xs chain : List ExactPoint) (n : ℕ) (kind : EdgeKind) (old new : List EdgePlaces) → n ≤ max 1 (length chain) → length chain ≤ n → AreStepsOf xs chain n kind old new → AreStepsOf xs chain (length chain) kind old new
+pub all_steps : (xs chain : List ExactPoint) (n : ℕ) (kind : EdgeKind) (old new : List EdgePlaces)
+    → n ≤ length chain → length chain ≤ n
+    → AreStepsOf xs chain n kind old new → AreStepsOf xs chain (length chain) kind old new
 all_steps xs chain n kind old new q h s = record {
   keeps = s.keeps;
   each = λ e c. elim (s.each e c) [ inl x ↦ inl x | inr x ↦ inr (record { place = x.place; within = within x.place x.within; from = x.from; to = x.to; from_in = x.from_in; to_in = x.to_in; kind_is = x.kind_is }) ];
@@ -78,3 +114,17 @@ steps_more {R = R} t xs chain up i kind old now new e f l u v p q fi li au av xf
         (ef ∙ sym (one_place t xs up u x.from f y.from_in fi (subst (λ z. get_or xs x.from z ≡ z) (ap (λ n. get_or chain n u) k ∙ first u) (y.from u)) xf))
         (el ∙ sym (one_place t xs up v x.to l y.to_in li (subst (λ z. get_or xs x.to z ≡ z) (ap (λ n. get_or chain (n + 1) v) k ∙ ap (λ n. get_or chain n v) next ∙ second v) (y.to v)) xl))
         (ek ∙ sym y.kind_is)
+
+-- one more, where the place of the point before it is kept
+pub step_added : {R : ExactPoint → ExactPoint → Ordering} (t : IsTotalOrder R) (xs chain : List ExactPoint) → Ascends R xs
+    → (i : ℕ) (kind : EdgeKind) (old now new : List EdgePlaces) (e : EdgePlaces) (f l : ℕ) (v : ExactPoint)
+    → 0 < i → i < length chain → l < length xs → v ≡ get_or chain i v → get_or xs l v ≡ v
+    → e ≡ record { from = f; to = l; kind = kind } → new ≡ now ++ e ∷ [] → IsLast xs chain i f
+    → AreStepsOf xs chain i kind old now → AreStepsOf xs chain (i + 1) kind old new
+step_added t xs chain up i kind old now new e f l v p q li av xl ee en last s =
+    steps_more t xs chain up i kind old now new e f l u v (omega arith) q (last.within p) li
+    (get_or_default chain (i - 1) v u (omega arith)) av (last.is p v) xl
+    (ap (λ (x : EdgePlaces). x.from) ee) (ap (λ (x : EdgePlaces). x.to) ee) (ap (λ (x : EdgePlaces). x.kind) ee) en s
+  where
+    u : ExactPoint
+    u = get_or chain (i - 1) v

@@ -9,7 +9,7 @@ use Rattle.geometry.proofs.PointOrder.{same_trans}
 use Rattle.sheet.specs.Sheet.{corner}
 use Rattle.sheet.specs.Pattern.{ExactCrease, ExactPattern}
 use Rattle.chains.specs.Chains.{Ascends, AreNeighbours}
-use Rattle.chains.proofs.Sorted.{ordered_of, no_longer}
+use Rattle.chains.proofs.callers.Sorted.{ordered_of, no_longer}
 use Rattle.subdivide.specs.Subdivision.{Line, lines, IsLine, EdgePlaces, InRange, Answer, CutOf, AreVertices, vertex_limit}
 use Rattle.subdivide.specs.Chain.{IsFound, IsChain, InChain, IsStep, AreSteps, KindedBefore}
 use Rattle.subdivide.specs.Crossings.{IsChainAmong, RefusesFirst, RefusesChain}
@@ -30,9 +30,10 @@ use Rattle.subdivide.specs.declared.gather.Chain.{Chain}
 use Rattle.subdivide.proofs.Crossings.{line_in}
 use Rattle.subdivide.proofs.Cutting.{chain_of_points, vertices_of_chains, edges_of_steps}
 use Rattle.subdivide.proofs.PatternLines.{pattern_lines, contains_map, crease_line}
-use Rattle.plane.proofs.Orders.{point_exact, point_total}
-use Rattle.subdivide.proofs.Points.{ascends_before, all_from, same_held}
-use Rattle.subdivide.proofs.Range.{some_crease}
+use Rattle.plane.proofs.callers.Orders.{point_exact, point_total}
+use Rattle.subdivide.proofs.Points.{ascends_before, same_held}
+use Rattle.subdivide.proofs.callers.Range.{some_crease}
+use Rattle.creases.proofs.callers.Members.{all_of}
 
 line_at : (ls : List Line) (l : Line) → Contains ls l → (k : ℕ) × (k < length ls) × (slice_get ls k ≡ Some l)
 line_at ls l c = (c.0, c.1, slice_get_read ls (length ls) c.0 l refl c.1 (sym c.2))
@@ -40,7 +41,7 @@ line_at ls l c = (c.0, c.1, slice_get_read ls (length ls) c.0 l refl c.1 (sym c.
 -- the ends and crossings of a line are its chain
 pub is_chain : (pattern : ExactPattern) (ls : List Line) (l : Line) (chain : List ExactPoint) → AreLinesOf pattern ls → Contains ls l → IsChainAmong l.seg ls chain → IsChain pattern l.seg chain
 is_chain pattern ls l chain a c h = chain_of_points pattern (pattern_lines pattern a.is) l.seg chain (l.kind, subst (λ z. Contains z l) a.same c) h.ordered
-    (all_from (IsFound pattern l.seg) chain each) all
+    (all_of (IsFound pattern l.seg) chain each) all
   where
     each : (v : ExactPoint) → Contains chain v → IsFound pattern l.seg v
     each v x = elim (All-contains (λ v. SamePoint v l.seg.p ⊎ (SamePoint v l.seg.q ⊎ ((m : Line) × Contains ls m × Cross l.seg m.seg v))) chain v h.each x) [
@@ -82,17 +83,17 @@ in_range pattern ls points a h s t o = (let x = line_of_key s o.1 in let y = lin
 -- an ascending list of just these points is that of the vertices
 pub vertices_are : (pattern : ExactPattern) (ls : List Line) (vs : List ExactPoint) → AreLinesOf pattern ls → HoldsChains ls (length ls) vs → Ascends point_cmp vs → AreVertices pattern vs
 vertices_are pattern ls vs a h up = vertices_of_chains pattern vs (pattern_lines pattern a.is) (ascends_before vs canonical up) canonical
-    (all_from (InChain pattern) vs each) all
+    (all_of (InChain pattern) vs each) all
   where
     canonical : All IsPointCanonical vs
-    canonical = all_from IsPointCanonical vs (held_canonical ls (length ls) vs h)
+    canonical = all_of IsPointCanonical vs (held_canonical ls (length ls) vs h)
 
     each : (v : ExactPoint) → Contains vs v → InChain pattern v
     each v c = (let w = h.each v c in (w.0.seg, w.1, is_chain pattern ls w.0 w.1 a w.2 w.3, w.4))
 
     all : (s : ExactSegment) → IsLine pattern s → (chain : List ExactPoint) × IsChain pattern s chain × All (Contains vs) chain
     all s b = (let l : Line = record { seg = s; kind = b.0 } in let c = subst (λ z. Contains z l) (sym a.same) b.1 in let i = line_at ls l c in let w = h.all i.0 l i.1 i.2 in
-        (w.0, is_chain pattern ls l w.0 a c w.1, all_from (Contains vs) w.0 w.2))
+        (w.0, is_chain pattern ls l w.0 a c w.1, all_of (Contains vs) w.0 w.2))
 
 -- too many points are too many vertices
 pub too_many : (pattern : ExactPattern) (ls : List Line) (points : List ExactPoint) → AreLinesOf pattern ls → IsOverfull ls (length ls) points → CutOf pattern Answer.TooManyVertices
@@ -163,7 +164,7 @@ step_in pattern ls chains vs a h e s = (
 pub steps_are : (pattern : ExactPattern) (ls : List Line) (chains : List Chain) (vs : List ExactPoint) (es : List EdgePlaces) → AreLinesOf pattern ls → AreChains ls (length ls) chains vs → AllPairs KindedBefore es → HoldsSteps vs chains (length chains) es → AreSteps pattern vs es
 steps_are pattern ls chains vs es a h up s = record {
   ordered = up;
-  each = all_from (StepIn pattern vs) es (λ e c. step_in pattern ls chains vs a h e (s.each e c));
+  each = all_of (StepIn pattern vs) es (λ e c. step_in pattern ls chains vs a h e (s.each e c));
   all = all;
 }
   where
@@ -178,7 +179,7 @@ steps_are pattern ls chains vs es a h up s = record {
           | inl x ↦ (let w = h.each n l x.0 e x.2 in (
             x.0.points.items,
             is_chain pattern ls l x.0.points.items a c w.1,
-            all_from (Contains vs) x.0.points.items w.2,
+            all_of (Contains vs) x.0.points.items w.2,
             λ u v i j q f g. s.all n x.0 (record { from = i; to = j; kind = l.kind }) x.1 (subst (IsStepOfChain i j) (sym (get_or_from_slice_get chains n x.0 x.0 x.2)) (step x.0 (sym w.0) u v i j q f g)),
           ))
         ]
@@ -236,11 +237,11 @@ refuses_cut pattern ls (stop.Why bad.TooManyVertices) a h = absurd h
 
 -- the chains are made of the points
 pub chains_within : (ls : List Line) (chains chains' : List Chain) (vs vs' : List ExactPoint) → chains' ≡ chains → vs' ≡ vs → AreChains ls (length ls) chains vs → All (λ (c : Chain). All (Contains vs') c.points.items) chains'
-chains_within ls chains chains' vs vs' e f h = rw (e, f) (all_from (λ (c : Chain). All (Contains vs) c.points.items) chains within)
+chains_within ls chains chains' vs vs' e f h = rw (e, f) (all_of (λ (c : Chain). All (Contains vs) c.points.items) chains within)
   where
     within : (c : Chain) → Contains chains c → All (Contains vs) c.points.items
     within c x = elim (slice_get_cases ls x.0).1 [
-      | inl l ↦ all_from (Contains vs) c.points.items (h.each x.0 l.0 c l.2 (slice_get_read chains (length chains) x.0 c refl x.1 (sym x.2))).2
+      | inl l ↦ all_of (Contains vs) c.points.items (h.each x.0 l.0 c l.2 (slice_get_read chains (length chains) x.0 c refl x.1 (sym x.2))).2
       | inr l ↦ absurd (omega (arith, x.1, l.0, h.count))
     ]
 

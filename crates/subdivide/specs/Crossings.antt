@@ -2,7 +2,8 @@
 use Rattle.std.specs.Prelude.{◌≡◌, ℕ, ◌<◌, ◌⊎◌, List, length, Contains, AllPairs, All, slice_get, Some}
 use Rattle.std.specs.Ordering.{nat_cmp}
 use Rattle.exact.specs.Number.{Less}
-use Rattle.exact.specs.Plane.{ExactPoint, SamePoint, Before, ExactSegment, OnBoth, Cross, IsPointCanonical, IsPointRepresentable}
+use Rattle.exact.specs.Plane.{ExactPoint, SamePoint, Before, ExactSegment, OnBoth, Cross, IsPointCanonical}
+use Rattle.exact.specs.Plane.{IsPointRepresentable}
 use Rattle.chains.specs.Chains.{Ascends}
 use Rattle.subdivide.specs.Subdivision.{Line}
 use Rattle.subdivide.specs.declared.edge.CutBad.{CutBad}
@@ -26,7 +27,8 @@ AreAtHeights s t = LiesBelow s t ⊎ LiesBelow t s
 pub record Covers (s : ExactSegment) (lines : List Line) (places : List ℕ) : Type 0 where
   pub ascends : Ascends nat_cmp places
   pub within : All (λ place. place < length lines) places
-  pub rest : (k : ℕ) (l : Line) → slice_get lines k ≡ Some l → ¬ Contains places k → (r : ExactPoint) → ¬ OnBoth r s l.seg
+  pub rest : (k : ℕ) (l : Line) → slice_get lines k ≡ Some l → ¬ Contains places k → (r : ExactPoint)
+      → ¬ OnBoth r s l.seg
 
 -- the list has the point, by these numbers or others
 abbrev pub Holds : List ExactPoint → ExactPoint → Type 0
@@ -37,7 +39,8 @@ pub record HoldsCrossing (s t : ExactSegment) (points : List ExactPoint) : Type 
   pub held : (v : ExactPoint) → Cross s t v → Holds points v
 
 -- the same for the first n lines
-pub record HoldsCrossings (s : ExactSegment) (lines : List Line) (n : ℕ) (points : List ExactPoint) : Type 0 where
+pub record HoldsCrossings (s : ExactSegment) (lines : List Line) (n : ℕ)
+    (points : List ExactPoint) : Type 0 where
   pub each : (k : ℕ) (l : Line) → k < n → slice_get lines k ≡ Some l → HoldsCrossing s l.seg points
 
 -- the one common point of s with one of the lines
@@ -65,7 +68,8 @@ pub record RefusesAt (s t : ExactSegment) (lines : List Line) (points : List Exa
 
 abbrev pub RefusesLine : ExactSegment → List Line → List ExactPoint → Stop CutBad → Type 0
 RefusesLine s lines points stop.NoMemory = Unit {0}
-RefusesLine s lines points (stop.Why (bad.CrossRange first second)) = (first ≡ s) × RefusesAt s second lines points
+RefusesLine s lines points (stop.Why (bad.CrossRange first second)) = (first ≡ s)
+    × RefusesAt s second lines points
 RefusesLine s lines points (stop.Why bad.TooManyVertices) = ⊥
 
 -- the ends of s and the one common point with each line, by some numbers in lowest terms, ascending
@@ -84,7 +88,8 @@ pub record RefusesFirst (s t : ExactSegment) (lines : List Line) : Type 0 where
   pub stands : slice_get lines place ≡ Some line
   pub is : line.seg ≡ t
   pub out : CrossesOut s t
-  pub before : (k : ℕ) (l : Line) (v : ExactPoint) → k < place → slice_get lines k ≡ Some l → Cross s l.seg v → IsPointRepresentable v
+  pub before : (k : ℕ) (l : Line) (v : ExactPoint) → k < place → slice_get lines k ≡ Some l
+      → Cross s l.seg v → IsPointRepresentable v
 
 abbrev pub RefusesChain : ExactSegment → List Line → Stop CutBad → Type 0
 RefusesChain s lines stop.NoMemory = Unit {0}

@@ -10,17 +10,22 @@ use Rattle.subdivide.specs.declared.gather.Gathered.{Gathered}
 
 -- v stands in the chain of a line
 abbrev pub StandsInChain : List Line → ExactPoint → Type 0
-StandsInChain lines v = (l : Line) × (chain : List ExactPoint) × Contains lines l × IsChainAmong l.seg lines chain × Contains chain v
+StandsInChain lines v = (l : Line) × (chain : List ExactPoint) × Contains lines l
+    × IsChainAmong l.seg lines chain × Contains chain v
 
 -- the list has the points of the chains of the first n lines, and no others
 pub record HoldsChains (lines : List Line) (n : ℕ) (points : List ExactPoint) : Type 0 where
   pub each : (v : ExactPoint) → Contains points v → StandsInChain lines v
-  pub all : (k : ℕ) (l : Line) → k < n → slice_get lines k ≡ Some l → (chain : List ExactPoint) × IsChainAmong l.seg lines chain × ((v : ExactPoint) → Contains chain v → Contains points v)
+  pub all : (k : ℕ) (l : Line) → k < n → slice_get lines k ≡ Some l → (chain : List ExactPoint)
+      × IsChainAmong l.seg lines chain × ((v : ExactPoint) → Contains chain v → Contains points v)
 
 -- the chains of the first n lines, in their order, from points of the list
-pub record AreChains (lines : List Line) (n : ℕ) (chains : List Chain) (points : List ExactPoint) : Type 0 where
+pub record AreChains (lines : List Line) (n : ℕ) (chains : List Chain)
+    (points : List ExactPoint) : Type 0 where
   pub count : length chains ≡ n
-  pub each : (k : ℕ) (l : Line) (c : Chain) → slice_get lines k ≡ Some l → slice_get chains k ≡ Some c → (c.kind ≡ l.kind) × IsChainAmong l.seg lines c.points.items × ((v : ExactPoint) → Contains c.points.items v → Contains points v)
+  pub each : (k : ℕ) (l : Line) (c : Chain) → slice_get lines k ≡ Some l → slice_get chains k ≡ Some c
+      → (c.kind ≡ l.kind) × IsChainAmong l.seg lines c.points.items
+      × ((v : ExactPoint) → Contains c.points.items v → Contains points v)
 
 -- more than 100,000 points, each once, stand in the chains of the first n lines
 pub record IsOverfull (lines : List Line) (n : ℕ) (points : List ExactPoint) : Type 0 where

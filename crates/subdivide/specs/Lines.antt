@@ -21,7 +21,8 @@ pub record RefusesPairFirst (s t : ExactSegment) (ls : List Line) : Type 0 where
   pub stands : slice_get ls place ≡ Some line
   pub is : line.seg ≡ s
   pub rest : RefusesFirst s t ls
-  pub before : (k : ℕ) (l m : Line) (v : ExactPoint) → k < place → slice_get ls k ≡ Some l → Contains ls m → Cross l.seg m.seg v → IsPointRepresentable v
+  pub before : (k : ℕ) (l m : Line) (v : ExactPoint) → k < place → slice_get ls k ≡ Some l → Contains ls m
+      → Cross l.seg m.seg v → IsPointRepresentable v
 
 abbrev pub RefusesLines : List Line → Stop CutBad → Type 0
 RefusesLines ls stop.NoMemory = Unit {0}

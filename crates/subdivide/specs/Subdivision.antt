@@ -1,6 +1,8 @@
 -- A pattern cut at its crossings into vertices and edges.
-use Rattle.std.specs.Prelude.{◌≡◌, ℕ, ◌<◌, ◌≤◌, ◌⊎◌, List, length, map, All, AllPairs, Contains, slice_get, Some, ◌++◌}
-use Rattle.exact.specs.Plane.{ExactPoint, SamePoint, Before, ExactSegment, OnSeg, Cross, IsPointCanonical, IsPointRepresentable, SegmentBefore}
+use Rattle.std.specs.Prelude.{◌≡◌, ℕ, ◌<◌, ◌≤◌, ◌⊎◌, List, length, map, All, AllPairs, Contains, slice_get}
+use Rattle.std.specs.Prelude.{Some, ◌++◌}
+use Rattle.exact.specs.Plane.{ExactPoint, SamePoint, Before, ExactSegment, OnSeg, Cross, IsPointCanonical}
+use Rattle.exact.specs.Plane.{IsPointRepresentable, SegmentBefore}
 use Rattle.sheet.specs.Sheet.{IsCorner, sides}
 use Rattle.sheet.specs.Pattern.{ExactCrease, ExactPattern}
 use Rattle.sheet.specs.declared.colour.Colour.{Colour}
@@ -38,7 +40,8 @@ IsVertex pattern v =
 -- two creases, the first before the second, whose one common point cannot be held
 abbrev pub OutOfRange : ExactPattern → ExactSegment → ExactSegment → Type 0
 OutOfRange pattern s t =
-    SegmentBefore s t × Contains (map (λ f. f.seg) pattern.creases) s × Contains (map (λ f. f.seg) pattern.creases) t
+    SegmentBefore s t × Contains (map (λ f. f.seg) pattern.creases) s
+    × Contains (map (λ f. f.seg) pattern.creases) t
     × ((v : ExactPoint) × Cross s t v × (¬ IsPointRepresentable v))
 
 -- two vertices of one line, u before v, with no vertex strictly between them
@@ -46,7 +49,8 @@ pub record IsEdge (pattern : ExactPattern) (u v : ExactPoint) (kind : EdgeKind) 
   pub from : IsVertex pattern u
   pub to : IsVertex pattern v
   pub ordered : Before u v
-  pub line : (s : ExactSegment) × Contains (lines pattern) (record { seg = s; kind = kind }) × OnSeg u s × OnSeg v s
+  pub line : (s : ExactSegment) × Contains (lines pattern) (record { seg = s; kind = kind }) × OnSeg u s
+      × OnSeg v s
       × ((w : ExactPoint) → IsVertex pattern w → OnSeg w s → Before u w → ¬ Before w v)
 
 -- an edge by the places of its vertices, with its kind
@@ -65,16 +69,18 @@ PlacesBefore e f = (e.from < f.from) ⊎ ((e.from ≡ f.from) × (e.to < f.to))
 
 pub record AreEdges (pattern : ExactPattern) (vs : List ExactPoint) (es : List EdgePlaces) : Type 0 where
   pub ordered : AllPairs PlacesBefore es
-  pub each : All (λ e. (u v : ExactPoint) × (slice_get vs e.from ≡ Some u) × (slice_get vs e.to ≡ Some v) × IsEdge pattern u v e.kind) es
-  pub all : (i j : ℕ) (u v : ExactPoint) (k : EdgeKind) → slice_get vs i ≡ Some u → slice_get vs j ≡ Some v → IsEdge pattern u v k → Contains es (record { from = i; to = j; kind = k })
+  pub each : All (λ e. (u v : ExactPoint) × (slice_get vs e.from ≡ Some u) × (slice_get vs e.to ≡ Some v)
+      × IsEdge pattern u v e.kind) es
+  pub all : (i j : ℕ) (u v : ExactPoint) (k : EdgeKind) → slice_get vs i ≡ Some u → slice_get vs j ≡ Some v
+      → IsEdge pattern u v k → Contains es (record { from = i; to = j; kind = k })
 
 -- a cut pattern: its vertices and its edges
 pub record ExactSubdivision : Type 0 where
   pub vertices : List ExactPoint
   pub edges : List EdgePlaces
 
--- what is known of every cut pattern: the vertices ascend, each in lowest terms, and the edges ascend, each from a
--- vertex to a later one
+-- what is known of every cut pattern: the vertices ascend, each in lowest terms, and the edges
+-- ascend, each from a vertex to a later one
 pub record IsSubdivision (s : ExactSubdivision) : Type 0 where
   pub vertices : AllPairs Before s.vertices
   pub canonical : All IsPointCanonical s.vertices
@@ -98,6 +104,10 @@ vertex_limit = 100000
 -- the answer of cutting a pattern
 abbrev pub CutOf : ExactPattern → Answer → Type 0
 CutOf pattern (CrossRange s t) =
-    OutOfRange pattern s t × ((u v : ExactSegment) → OutOfRange pattern u v → ¬ (SegmentBefore u s ⊎ ((u ≡ s) × SegmentBefore v t)))
-CutOf pattern TooManyVertices = InRange pattern × ((vs : List ExactPoint) × AreVertices pattern vs × (vertex_limit < length vs))
-CutOf pattern (Cut vs es) = InRange pattern × AreVertices pattern vs × (length vs ≤ vertex_limit) × AreEdges pattern vs es
+    OutOfRange pattern s t
+    × ((u v : ExactSegment) → OutOfRange pattern u v
+    → ¬ (SegmentBefore u s ⊎ ((u ≡ s) × SegmentBefore v t)))
+CutOf pattern TooManyVertices = InRange pattern
+    × ((vs : List ExactPoint) × AreVertices pattern vs × (vertex_limit < length vs))
+CutOf pattern (Cut vs es) = InRange pattern × AreVertices pattern vs × (length vs ≤ vertex_limit)
+    × AreEdges pattern vs es

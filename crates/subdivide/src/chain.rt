@@ -1,8 +1,9 @@
 //! The vertices on one line, ascending.
 
-ghost use Rattle.std.specs.Prelude.{◌≡◌, ◌⊎◌, ℕ, All, Contains, length, IfOk, IfErr, OnOk};
-ghost use Rattle.exact.specs.Plane.{ExactPoint, IsSegment, IsPointCanonical, Cross};
-ghost use Rattle.subdivide.specs.Crossings.{Covers, HoldsCrossing, HoldsCrossings, IsCrossing, IsChainAmong, RefusesPair, RefusesLine, RefusesChain};
+ghost use Rattle.std.specs.Prelude.{◌⊎◌, Contains, length, IfOk, IfErr, OnOk};
+ghost use Rattle.exact.specs.Plane.{ExactPoint, IsPointCanonical, Cross};
+ghost use Rattle.subdivide.specs.Crossings.{Covers, HoldsCrossing, HoldsCrossings, IsCrossing, IsChainAmong};
+ghost use Rattle.subdivide.specs.Crossings.{RefusesPair, RefusesLine, RefusesChain};
 
 use crate::CutBad;
 use crate::line::{Line, common};
@@ -14,7 +15,8 @@ use std::alloc::Global;
 /// Adds the one common point of a segment and a line, if there is one.
 fn add_crossing(seg: &Seg, line: &Seg, points: &mut Vec<Point>) -> Result<(), Stop<CutBad>>
     ensures keeps { (v : ExactPoint) → Contains points.old.items v → Contains points.new.items v }
-    ensures adds { (v : ExactPoint) → Contains points.new.items v → Contains points.old.items v ⊎ (Cross seg.now line.now v × IsPointCanonical v) }
+    ensures adds { (v : ExactPoint) → Contains points.new.items v → Contains points.old.items v
+        ⊎ (Cross seg.now line.now v × IsPointCanonical v) }
     ensures ok { OnOk result (HoldsCrossing seg.now line.now points.new.items) }
     ensures err { IfErr result (λ e. RefusesPair seg.now line.now e) }
 {
@@ -32,7 +34,8 @@ fn add_crossing(seg: &Seg, line: &Seg, points: &mut Vec<Point>) -> Result<(), St
     }
 }
 
-/// Adds the one common point of a segment with each of the lines at these places. They are all that have a point of it.
+/// Adds the one common point of a segment with each of the lines at these places. They are all that
+/// have a point of it.
 fn add_crossings(
     seg: &Seg,
     lines: &[Line],
@@ -41,7 +44,8 @@ fn add_crossings(
 ) -> Result<(), Stop<CutBad>>
     requires { Covers seg.now lines.now places.now }
     ensures keeps { (v : ExactPoint) → Contains points.old.items v → Contains points.new.items v }
-    ensures adds { (v : ExactPoint) → Contains points.new.items v → Contains points.old.items v ⊎ (IsCrossing seg.now lines.now v × IsPointCanonical v) }
+    ensures adds { (v : ExactPoint) → Contains points.new.items v → Contains points.old.items v
+        ⊎ (IsCrossing seg.now lines.now v × IsPointCanonical v) }
     ensures ok { OnOk result (HoldsCrossings seg.now lines.now (length lines.now) points.new.items) }
     ensures err { IfErr result (λ e. RefusesLine seg.now lines.now points.new.items e) }
 {

@@ -1,10 +1,9 @@
 //! A pattern is cut line after line: the chain of each, then all points once, then all edges.
 
-ghost use Rattle.std.specs.Prelude.{◌≡◌, ℕ, ◌≤◌, List, All, IfOk, IfErr, false, length};
+ghost use Rattle.std.specs.Prelude.{◌≡◌, IfOk, IfErr, length};
 ghost use Rattle.subdivide.specs.Crossings.{IsChainAmong, RefusesChain};
 ghost use Rattle.subdivide.specs.Strips.{AreStrips};
 ghost use Rattle.sheet.specs.Pattern.{ExactPattern};
-ghost use Rattle.chains.specs.Chains.{Ascends};
 ghost use Rattle.ports.specs.Stops.{Answers};
 ghost use Rattle.subdivide.specs.Subdivision.{IsSubdivision};
 ghost use Rattle.subdivide.specs.Gathered.{IsGathered};
@@ -24,7 +23,8 @@ use ports::{NoMemory, Stop};
 use std::alloc::Global;
 use std::marker::Model;
 
-/// A cut pattern: its vertices, ascending, and its edges by places in that list, ascending by `from` and then by `to`.
+/// A cut pattern: its vertices, ascending, and its edges by places in that list, ascending by
+/// `from` and then by `to`.
 #[derive(Debug, Drop)]
 pub struct Subdivision {
     vertices: Vec<Point>,
@@ -49,7 +49,8 @@ impl Subdivision {
         Subdivision { vertices, edges }
     }
 
-    /// The corners, the ends of creases, and the points where creases and sides cross, each once, ascending by x and then by y.
+    /// The corners, the ends of creases, and the points where creases and sides cross, each once,
+    /// ascending by x and then by y.
     pub fn vertices(&self) -> &[Point]
         ensures value { result.now ≡ self.now.vertices }
         ensures subdivision { IsSubdivision self.now }
@@ -88,7 +89,8 @@ fn chain(
     places: &mut Vec<usize>,
 ) -> Result<Chain, Stop<CutBad>>
     requires { AreStrips lines.now held.now }
-    ensures ok { IfOk result (λ chain. (chain.kind ≡ line.now.kind) × IsChainAmong line.now.seg lines.now chain.points.items) }
+    ensures ok { IfOk result
+        (λ chain. (chain.kind ≡ line.now.kind) × IsChainAmong line.now.seg lines.now chain.points.items) }
     ensures err { IfErr result (λ e. RefusesChain line.now.seg lines.now e) }
 {
     reached(held, lines, line.seg(), places)?;
@@ -134,12 +136,13 @@ fn cut(alloc: Global, lines: &[Line]) -> Result<Subdivision, Stop<CutBad>>
 
 /// Cuts a pattern at all points where its creases and the sides of the sheet cross.
 ///
-/// Cutting tries all pairs of lines whose extents meet, and sorts what it finds.
+/// Each line is met with those that stand near it by direction and from right to left, and all that
+/// is found is sorted.
 ///
 /// # Errors
 ///
-/// `CrossRange` where two creases have exactly one common point and no `Point` can hold it, with the
-/// least such pair; `TooManyVertices` where there is no such pair and more vertices than
+/// `CrossRange` where two creases have exactly one common point and no `Point` can hold it, with
+/// the least such pair; `TooManyVertices` where there is no such pair and more vertices than
 /// `VERTEX_LIMIT`; `NoMemory` where memory runs out.
 pub fn scratch(alloc: Global, pattern: &Pattern) -> Result<Subdivision, Stop<CutBad>>
     ensures { Answers (IsCutAnswer pattern.now) result }

@@ -11,7 +11,8 @@ pub enum EdgeKind {
     A,
 }
 
-/// An edge between two vertices, by their places in the ascending list of all, counted from 0. `from` is less than `to`.
+/// An edge between two vertices, by their places in the ascending list of all, counted from 0.
+/// `from` is less than `to`.
 #[derive(Clone, Copy, Debug, PartialEq, Eq, PartialOrd, Ord, Hash)]
 pub struct Edge {
     pub from: u32,
@@ -25,7 +26,8 @@ pub const VERTEX_LIMIT: usize = 100_000;
 /// Why a pattern is not cut.
 #[derive(Clone, Copy, Debug, PartialEq, Eq)]
 pub enum CutBad {
-    /// Two creases, the first before the second, have exactly one common point, and no `Point` can hold it. Of all such pairs it is the least, by the first crease and then by the second.
+    /// Two creases, the first before the second, have exactly one common point, and no `Point` can
+    /// hold it. Of all such pairs it is the least, by the first crease and then by the second.
     CrossRange { first: Seg, second: Seg },
     /// There is no such pair, and there are more vertices than `VERTEX_LIMIT`.
     TooManyVertices,

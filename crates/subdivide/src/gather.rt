@@ -1,6 +1,6 @@
 //! The chains of all lines, and their points, of which no more are kept than serve.
 
-ghost use Rattle.std.specs.Prelude.{◌≡◌, ℕ, ◌+◌, ◌≤◌, List, All, OnOk, IfOk, IfErr, Contains, false, true, length, slice_get, Some};
+ghost use Rattle.std.specs.Prelude.{◌≡◌, ℕ, ◌+◌, ◌≤◌, List, OnOk, false, length, slice_get, Some};
 ghost use Rattle.chains.specs.Chains.{Ascends};
 ghost use Rattle.subdivide.specs.Subdivision.{Line as ALine, vertex_limit};
 ghost use Rattle.subdivide.specs.Crossings.{IsChainAmong};
@@ -44,7 +44,10 @@ impl Gathered {
 
     /// Adds the chain of the next line.
     pub fn add(&mut self, chain: Chain) -> Result<(), AllocError>
-        ensures { OnOk result ((lines : List ALine) (n : ℕ) (l : ALine) → slice_get lines n ≡ Some l → chain.kind ≡ l.kind → IsChainAmong l.seg lines chain.points.items → IsGathered lines n self.old → IsGathered lines (n + 1) self.new) }
+        ensures { OnOk result
+            ((lines : List ALine) (n : ℕ) (l : ALine) → slice_get lines n ≡ Some l → chain.kind ≡ l.kind
+            → IsChainAmong l.seg lines chain.points.items → IsGathered lines n self.old
+            → IsGathered lines (n + 1) self.new) }
     {
         if self.too_many {
             return Ok(());
@@ -59,7 +62,10 @@ impl Gathered {
     fn keep(&mut self, chain: Chain) -> Result<(), AllocError>
         requires { self.old.too_many ≡ false }
         ensures stays { self.new.too_many ≡ false }
-        ensures ok { OnOk result ((lines : List ALine) (n : ℕ) (l : ALine) → slice_get lines n ≡ Some l → chain.kind ≡ l.kind → IsChainAmong l.seg lines chain.points.items → IsGathered lines n self.old → IsGathered lines (n + 1) self.new) }
+        ensures ok { OnOk result
+            ((lines : List ALine) (n : ℕ) (l : ALine) → slice_get lines n ≡ Some l → chain.kind ≡ l.kind
+            → IsChainAmong l.seg lines chain.points.items → IsGathered lines n self.old
+            → IsGathered lines (n + 1) self.new) }
     {
         self.points.extend_from_slice(&chain.points)?;
         self.chains.push(chain)?;
@@ -68,7 +74,8 @@ impl Gathered {
 
     /// Takes out the last copies, so that each point stands once where there are not too many.
     pub fn close(&mut self)
-        ensures same { (lines : List ALine) (n : ℕ) → IsGathered lines n self.old → IsGathered lines n self.new }
+        ensures same { (lines : List ALine) (n : ℕ) → IsGathered lines n self.old
+            → IsGathered lines n self.new }
         ensures ascends { self.new.too_many ≡ false → Ascends point_cmp self.new.points.items }
         ensures few { self.new.too_many ≡ false → length self.new.points.items ≤ vertex_limit }
     {
@@ -81,7 +88,8 @@ impl Gathered {
     /// Takes out copies, and notes where what is left is too much.
     fn shorten(&mut self)
         requires { self.old.too_many ≡ false }
-        ensures same { (lines : List ALine) (n : ℕ) → IsGathered lines n self.old → IsGathered lines n self.new }
+        ensures same { (lines : List ALine) (n : ℕ) → IsGathered lines n self.old
+            → IsGathered lines n self.new }
         ensures ascends { Ascends point_cmp self.new.points.items }
         ensures few { self.new.too_many ≡ false → length self.new.points.items ≤ vertex_limit }
     {

@@ -1,8 +1,9 @@
 //! Laws of cutting, of chains and of the lines of a pattern.
-ghost use Rattle.std.specs.Prelude.{◌≡◌, ℕ, ◌<◌, ◌⊎◌, List, All, AllPairs, Contains};
+ghost use Rattle.std.specs.Prelude.{◌≡◌, List, All, AllPairs, Contains};
 ghost use Rattle.exact.specs.Plane.{ExactPoint, ExactSegment, SamePoint, Before, IsPointCanonical};
 ghost use Rattle.sheet.specs.Pattern.{ExactPattern, IsPattern};
-ghost use Rattle.subdivide.specs.Subdivision.{AreVertices, AreEdges, EdgePlaces, IsLine, IsVertex, Answer, CutOf};
+ghost use Rattle.subdivide.specs.Subdivision.{AreVertices, AreEdges, EdgePlaces, IsLine, IsVertex, Answer};
+ghost use Rattle.subdivide.specs.Subdivision.{CutOf};
 ghost use Rattle.layers.specs.declared.star.Ray.{Ray as AnyRay};
 ghost use Rattle.subdivide.specs.Star.{StarOf};
 ghost use Rattle.subdivide.specs.Chain.{AreLines, AreSteps, IsChain, InChain};
@@ -16,7 +17,8 @@ pub fn patterns_give_lines()
 pub fn chains_give_vertices()
     ensures { (pattern : ExactPattern) (vs : List ExactPoint)
         → AreLines pattern → AllPairs Before vs → All IsPointCanonical vs → All (InChain pattern) vs
-        → ((s : ExactSegment) → IsLine pattern s → (chain : List ExactPoint) × IsChain pattern s chain × All (Contains vs) chain)
+        → ((s : ExactSegment) → IsLine pattern s → (chain : List ExactPoint) × IsChain pattern s chain
+        × All (Contains vs) chain)
         → AreVertices pattern vs }
 {}
 
@@ -40,6 +42,7 @@ pub fn star_is_one()
 
 /// A vertex and its star are those of a point, whatever numbers the point is given by.
 pub fn star_is_of_the_point()
-    ensures { (pattern : ExactPattern) (v w : ExactPoint) (rays : List AnyRay) → IsPattern pattern → SamePoint v w
+    ensures { (pattern : ExactPattern) (v w : ExactPoint) (rays : List AnyRay) → IsPattern pattern
+        → SamePoint v w
         → IsVertex pattern v → StarOf pattern v rays → IsVertex pattern w × StarOf pattern w rays }
 {}

@@ -96,33 +96,12 @@ pub fn are_apart(s: &Seg, t: &Seg) -> bool
     are_beside(s, t) || are_at_heights(s, t)
 }
 
-/// What two lines have in common. A pair whose extents do not meet is told apart by comparing ends alone.
+/// What two lines have in common.
 pub fn common(s: &Seg, t: &Seg) -> Meet
     ensures meets { Meets s.now t.now result }
     ensures canonical { HasCanonicalPoints result }
 {
-    if are_apart(s, t) {
-        Meet::Apart
-    } else if is_same(s, t) {
-        all_of(s)
-    } else {
-        uncounted::<Brand>(s, t, Blank::new(1))
-    }
-}
-
-fn is_same(s: &Seg, t: &Seg) -> bool
-    ensures { IsTrue result ↔ (s.now ≡ t.now) }
-{
-    s.cmp(t).is_eq()
-}
-
-/// What a segment has in common with itself.
-fn all_of(s: &Seg) -> Meet
-    ensures meets { Meets s.now s.now result }
-    ensures canonical { HasCanonicalPoints result }
-{
-    let _ends = (s.p(), s.q());
-    Meet::Overlap(*s)
+    uncounted::<Brand>(s, t, Blank::new(1))
 }
 
 /// What two segments have in common, found with a counter of its own.

@@ -21,8 +21,8 @@ use std::marker::Model;
 use std::snapshot::Snapshot;
 use std::sync::ledger::Ledger;
 
-/// A pattern that is kept cut: its vertices, its edges, and the star of each vertex. Contracts see the pattern,
-/// which cutting does not refuse.
+/// A pattern that is kept cut: its vertices, its edges, and the star of each vertex. Contracts see
+/// the pattern, which cutting does not refuse.
 #[derive(Drop)]
 pub struct Live {
     pattern: Pattern,
@@ -57,9 +57,9 @@ impl Live {
         Ok(Live { pattern, cut, fans })
     }
 
-    /// The step by a delta that fits, if the pattern that it leads to can be cut. `steps` counts the pairs of
-    /// creases that are met for it. The pattern is cut from scratch, on a counter of its own, so `steps` may stand
-    /// still.
+    /// The step by a delta that fits, if the pattern that it leads to can be cut. `steps` counts
+    /// the pairs of creases that are met for it. The pattern is cut from scratch, on a counter of
+    /// its own, so `steps` may stand still.
     ///
     /// # Errors
     ///
@@ -117,8 +117,8 @@ impl Live {
         self.cut.copy(alloc)
     }
 
-    /// The mountain and valley edges at a vertex, by their directions away from it, or None where the point is no
-    /// vertex. It takes no memory.
+    /// The mountain and valley edges at a vertex, by their directions away from it, or None where
+    /// the point is no vertex. It takes no memory.
     pub fn star(&self, at: &Point) -> Option<Star>
         ensures some { IfSome result (λ star. StarOf self.now at.now star) }
         ensures vertex { IsSome result ↔ IsVertex self.now at.now }

@@ -1,6 +1,6 @@
 //! The creases that leave each vertex, read off the edges in one walk.
 
-ghost use Rattle.std.specs.Prelude.{◌≡◌, ◌≢◌, ℕ, ◌<◌, ◌↔◌, IfOk, IfSome, IsNone, length, slice_index_or};
+ghost use Rattle.std.specs.Prelude.{◌≡◌, ◌≢◌, ℕ, ◌<◌, IfOk, IfSome, IsNone, length, slice_index_or};
 ghost use Rattle.exact.specs.Plane.{ExactSegment, IsSegment, DirOf};
 ghost use Rattle.sheet.specs.Pattern.{ExactPattern};
 ghost use Rattle.sheet.specs.declared.mark.Mark.{Mark as AnyMark};

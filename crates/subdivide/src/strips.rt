@@ -1,11 +1,12 @@
 //! The lines by direction and from right to left, so that those that a segment can meet stand together.
 
-ghost use Rattle.std.specs.Prelude.{◌≡◌, ℕ, ◌<◌, ◌≤◌, ◌⊎◌, length, slice_index_or, Contains, IfOk, OnOk, IsTrue, ◌↔◌};
+ghost use Rattle.std.specs.Prelude.{◌≡◌, ℕ, ◌<◌, ◌≤◌, ◌⊎◌, length, slice_index_or, Contains, IfOk, OnOk};
 ghost use Rattle.std.specs.declared.cmp.Ordering.{Ordering as AnyOrdering};
 ghost use Rattle.std.specs.Ordering.{is_lt};
 ghost use Rattle.exact.specs.Plane.{ExactPoint, OnBoth};
 ghost use Rattle.subdivide.specs.Crossings.{Covers};
-ghost use Rattle.subdivide.specs.Strips.{line_order, line_held, through, order_across, AreHeld, AreOrdered, AreStrips, AreRightAndLeft, ReachesAll};
+ghost use Rattle.subdivide.specs.Strips.{line_order, line_held, through, order_across, AreHeld, AreOrdered};
+ghost use Rattle.subdivide.specs.Strips.{AreStrips, AreRightAndLeft, ReachesAll};
 ghost use Rattle.subdivide.specs.declared.strips.Held.{Held as AnyHeld};
 
 use crate::line::{Line, are_apart};
@@ -86,7 +87,8 @@ fn right_and_left(seg: &Seg, dir: Dir) -> (Point, Point)
 fn first_from(held: &[Held], dir: Dir, at: &Point) -> usize
     requires { AreOrdered held.now }
     ensures within { result ≤ length held.now }
-    ensures before { (i : ℕ) (d : AnyHeld) → i < result → line_order (line_held (slice_index_or held.now i d)) (through dir at.now) ≡ AnyOrdering.Less }
+    ensures before { (i : ℕ) (d : AnyHeld) → i < result
+        → line_order (line_held (slice_index_or held.now i d)) (through dir at.now) ≡ AnyOrdering.Less }
 {
     held.partition_point(|line| line.compare(dir, at).is_lt())
 }
@@ -95,7 +97,8 @@ fn first_from(held: &[Held], dir: Dir, at: &Point) -> usize
 fn first_past(held: &[Held], dir: Dir, at: &Point) -> usize
     requires { AreOrdered held.now }
     ensures within { result ≤ length held.now }
-    ensures after { (i : ℕ) (d : AnyHeld) → result ≤ i → i < length held.now → line_order (line_held (slice_index_or held.now i d)) (through dir at.now) ≡ AnyOrdering.Greater }
+    ensures after { (i : ℕ) (d : AnyHeld) → result ≤ i → i < length held.now
+        → line_order (line_held (slice_index_or held.now i d)) (through dir at.now) ≡ AnyOrdering.Greater }
 {
     held.partition_point(|line| line.compare(dir, at).is_le())
 }
@@ -104,7 +107,8 @@ fn first_past(held: &[Held], dir: Dir, at: &Point) -> usize
 fn add_place(seg: &Seg, line: &Seg, place: usize, places: &mut Vec<usize>) -> Result<(), AllocError>
     ensures keeps { (n : ℕ) → Contains places.old.items n → Contains places.new.items n }
     ensures adds { (n : ℕ) → Contains places.new.items n → Contains places.old.items n ⊎ (n ≡ place) }
-    ensures ok { OnOk result (Contains places.new.items place ⊎ ((r : ExactPoint) → ¬ OnBoth r seg.now line.now)) }
+    ensures ok { OnOk result
+        (Contains places.new.items place ⊎ ((r : ExactPoint) → ¬ OnBoth r seg.now line.now)) }
 {
     if !are_apart(seg, line) {
         places.push(place)?;
@@ -122,7 +126,8 @@ fn add_reached(
 ) -> Result<(), AllocError>
     requires { AreStrips lines.now held.now }
     ensures keeps { (n : ℕ) → Contains places.old.items n → Contains places.new.items n }
-    ensures within { (n : ℕ) → Contains places.new.items n → Contains places.old.items n ⊎ (n < length lines.now) }
+    ensures within { (n : ℕ) → Contains places.new.items n → Contains places.old.items n
+        ⊎ (n < length lines.now) }
     ensures ok { OnOk result (ReachesAll seg.now lines.now dir places.new.items) }
 {
     let (right, left) = right_and_left(seg, dir);
@@ -155,7 +160,10 @@ pub fn reached(
 {
     places.clear();
     for k in 0..16 {
-        add_reached(held, lines, seg, numbered(k), places)?;
+        // no line leads from its lesser end to an earlier point
+        if k < 5 || k > 12 {
+            add_reached(held, lines, seg, numbered(k), places)?;
+        }
     }
     ascending(places);
     Ok(())

@@ -7,7 +7,7 @@ use Rattle.geometry.specs.Gap.{cross}
 use Rattle.geometry.specs.Meeting.{SameSide}
 use Rattle.qroot2.specs.declared.sign.Sign.TheVariants.{Minus, Plus}
 use Rattle.plane.specs.Sides.{IsBeside}
-use Rattle.plane.proofs.Turns.{side_cross, cross_side}
+use Rattle.plane.proofs.callers.Turns.{side_cross, cross_side}
 
 pub beside_turns : (p : ExactPoint) (k : ℕ) (s : ExactSegment) → IsBeside p k s ↔ SameSide (cross (vector k) p s.p) (cross (vector k) p s.q)
 unfolding minus

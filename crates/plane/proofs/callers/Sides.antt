@@ -7,7 +7,7 @@ use Rattle.std.proofs.lemmas.Nat.Gcd.{dvd_antisymm}
 use Rattle.std.proofs.Math.Nat.{dvd-mul_right}
 use Rattle.exact.specs.Number.{ExactNumber, Same, Less, AtMost, IsCanonical, whole}
 use Rattle.exact.specs.Plane.{ExactPoint, ExactSegment, IsSegment, IsPointCanonical, OnSeg}
-use Rattle.exact.proofs.Order.{linear, real_less, real_equal, real_total, less_of, same_turned}
+use Rattle.exact.proofs.Order.{linear, real_less, real_equal, real_total, less_of, same_turned, less_moved}
 use Rattle.exact.proofs.Told.{same_itself, same_on, less_not_same, less_not_back}
 use Rattle.sheet.specs.Sheet.{ExactSheet, IsLength, IsSheet, end_at, corner, sides, InSheet, OnSide, OnBorder, IsWithin}
 use Rattle.geometry.specs.Meeting.{Along}
@@ -50,9 +50,6 @@ flat_in sheet zero h = (1, omega arith, refl)
 flat_in sheet (suc zero) h = (2, omega arith, refl)
 flat_in sheet (suc (suc i)) h = absurd (omega arith)
 
-same_less : (x y z : ExactNumber) → Same x y → Less x z → Less y z
-same_less x y z s h = less_of y z (sym (real_total.congr x y z (real_equal x y s)) ∙ real_less x z h)
-
 not_less : (x y : ExactNumber) → (Less y x → ⊥) → AtMost x y
 not_less x y n = elim (linear x y) [ inl h ↦ inr h | inr k ↦ elim k [ inl s ↦ inl s | inr h ↦ absurd (n h) ] ]
 
@@ -77,8 +74,8 @@ end_of n (suc (suc i)) x h s = absurd (omega arith)
 
 pub end_within : (n : ℕ) (x : ExactNumber) → IsLength n → IsEnd n x → IsWithin n x
 end_within n x l h = elim h [
-  | inl s ↦ (inl s, inr (same_less (whole 0) x (whole n) s (zero_less n l)))
-  | inr s ↦ (not_less (whole 0) x (λ b. less_not_back (whole 0) (whole n) (zero_less n l) (same_less x (whole n) (whole 0) (same_turned (whole n) x s) b)), inl (same_turned (whole n) x s))
+  | inl s ↦ (inl s, inr (less_moved (whole 0) x (whole n) s (zero_less n l)))
+  | inr s ↦ (not_less (whole 0) x (λ b. less_not_back (whole 0) (whole n) (zero_less n l) (less_moved x (whole n) (whole 0) (same_turned (whole n) x s) b)), inl (same_turned (whole n) x s))
 ]
 
 pub end_moved : (n : ℕ) (x y : ExactNumber) → Same x y → IsEnd n x → IsEnd n y

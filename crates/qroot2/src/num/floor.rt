@@ -1,5 +1,5 @@
 //! The whole part of a multiple of an exact number, found without squares.
-ghost use Rattle.std.specs.Prelude.{◌≡◌, pos, ◌+◌, ◌*◌, ◌≤◌, ◌<◌, ◌^◌, unsigned_abs, ◌*ℤ◌};
+ghost use Rattle.std.specs.Prelude.{◌≡◌, pos, ◌+◌, ◌*◌, ◌≤◌, ◌^◌, unsigned_abs, ◌*ℤ◌};
 ghost use Rattle.exact.specs.Number.{whole, mul};
 ghost use Rattle.exact.specs.Floor.{IsFloor};
 ghost use Rattle.qroot2.specs.Root.{IsRootOf, IsRootPart};

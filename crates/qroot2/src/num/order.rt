@@ -27,14 +27,15 @@ impl Ord for Num {
         ensures order { result ≡ num_cmp self.now other.now }
         ensures values { result ≡ real_cmp self.now other.now }
     {
-        if self.d == other.d {
-            by_squares(self.a - other.a, self.b - other.b)
-        } else if self.b == 0 && other.b == 0 {
-            scaled(self.a, other.d).cmp(&scaled(other.a, self.d))
-        } else if self.d < 1 << 13 && other.d < 1 << 13 {
+        if self.d < 1 << 13 && other.d < 1 << 13 {
+            // the usual case comes first: it has no branches
             let a = narrow_cross(self.a, other.a, self.d, other.d);
             let b = narrow_cross(self.b, other.b, self.d, other.d);
             by_squares(a, b)
+        } else if self.d == other.d {
+            by_squares(self.a - other.a, self.b - other.b)
+        } else if self.b == 0 && other.b == 0 {
+            scaled(self.a, other.d).cmp(&scaled(other.a, self.d))
         } else {
             let a = cross(self.a, other.a, self.d, other.d);
             let b = cross(self.b, other.b, self.d, other.d);
@@ -46,7 +47,8 @@ impl Ord for Num {
 impl PartialOrd for Num {
     ghost partial_cmp = { as_partial_cmp num_cmp };
 
-    ghost laws = { partial_order_from_agreeing_total num_cmp num_total (λ x y. refl) (num_ties (Prim.search (comparing, rules))) };
+    ghost laws = { partial_order_from_agreeing_total num_cmp num_total (λ x y. refl)
+        (num_ties (Prim.search (comparing, rules))) };
 
     fn partial_cmp(&self, other: &Num) -> Option<Ordering> {
         Some(self.cmp(other))

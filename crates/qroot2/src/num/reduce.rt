@@ -1,7 +1,7 @@
 //! Lowest terms: three numbers divided by their greatest common divisor.
-ghost use Rattle.std.specs.Prelude.{◌≡◌, ◌<◌, ◌≤◌, ◌^◌};
-ghost use Rattle.std.specs.Int.{IsGcd};
-ghost use Rattle.qroot2.specs.Num.{Reduces, signed};
+ghost use Rattle.std.specs.Prelude.{◌≡◌, ℕ, ◌<◌, ◌≤◌, ◌^◌, ◌%◌};
+ghost use Rattle.std.specs.Int.{IsGcd, ◌∣◌};
+ghost use Rattle.qroot2.specs.Num.{Reduces, AreEven, signed};
 
 /// The size, with the sign of a number.
 pub fn with_sign(of: i128, size: u128) -> i64
@@ -32,16 +32,49 @@ pub fn lowest(a: u128, b: u128, d: u128) -> (u128, u128, u128)
     (a / g, b / g, d / g)
 }
 
-/// The same of three numbers of 64 bits.
+/// The same of three numbers of 64 bits. Where the denominator is a power of two, nothing is
+/// divided but by two.
 fn narrow_lowest(a: u64, b: u64, d: u64) -> (u64, u64, u64)
     requires { 0 < d }
     ensures { Reduces a b d result.0 result.1 result.2 }
 {
-    let g = narrow_gcd(b, narrow_gcd(a, d));
+    let (x, y, z) = without_twos(a, b, d);
+    let g = narrow_gcd(y, narrow_gcd(x, odd_part(z)));
     if g == 1 {
-        return (a, b, d);
+        return (x, y, z);
     }
-    (a / g, b / g, d / g)
+    (x / g, y / g, z / g)
+}
+
+/// The three without the factors of two that all of them have.
+fn without_twos(a: u64, b: u64, d: u64) -> (u64, u64, u64)
+    requires { 0 < d }
+    ensures above { 0 < result.2 }
+    ensures odd { ¬ AreEven result.0 result.1 result.2 }
+    ensures same { (x y z : ℕ) → Reduces result.0 result.1 result.2 x y z → Reduces a b d x y z }
+{
+    let mut x = a;
+    let mut y = b;
+    let mut z = d;
+    while x % 2 == 0 && y % 2 == 0 && z % 2 == 0 {
+        x /= 2;
+        y /= 2;
+        z /= 2;
+    }
+    (x, y, z)
+}
+
+/// A number without its factors of two.
+fn odd_part(d: u64) -> u64
+    requires { 0 < d }
+    ensures divides { result ∣ d }
+    ensures odd { (n : ℕ) → n % 2 ≡ 1 → n ∣ d → n ∣ result }
+{
+    let mut z = d;
+    while z % 2 == 0 {
+        z /= 2;
+    }
+    z
 }
 
 /// The greatest common divisor, in 64 bits as soon as these hold both.

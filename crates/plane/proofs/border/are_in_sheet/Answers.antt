@@ -1,5 +1,5 @@
 use Rattle.sheet.specs.Sheet.{InSheet}
-use Rattle.plane.proofs.Told.{both_told}
+use Rattle.plane.proofs.callers.Told.{both_told}
 use Rattle.plane.proofs.border.are_in_sheet.Goals as goal
 
 pub returns-then-in_sheet : goal.returns-then-in_sheet

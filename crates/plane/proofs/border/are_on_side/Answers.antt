@@ -3,7 +3,7 @@ use Rattle.exact.specs.Number.{Same}
 use Rattle.exact.specs.Plane.{ExactPoint}
 use Rattle.sheet.specs.Sheet.{ExactSheet, InSheet}
 use Rattle.plane.specs.Corners.{IsEnd}
-use Rattle.plane.proofs.Told.{both_told, first_fails, first_holds, second_told}
+use Rattle.plane.proofs.callers.Told.{both_told, first_fails, first_holds, second_told}
 use Rattle.plane.proofs.border.are_on_side.Goals as goal
 
 abbrev In : ExactSheet → ExactPoint → ExactPoint → Type 0

@@ -3,7 +3,7 @@ use Rattle.exact.specs.Number.{Same, IsRepresentable}
 use Rattle.exact.specs.Plane.{vector}
 use Rattle.plane.specs.Ways.{root}
 use Rattle.plane.proofs.Numerators.{number_root}
-use Rattle.plane.proofs.Crossed.{whole_small, over_x, over_y, none_any, none_held, some_held}
+use Rattle.plane.proofs.callers.Crossed.{whole_small, over_x, over_y, none_any, none_held, some_held}
 use Rattle.plane.proofs.crossing.cross_lines.Goals as goal
 
 pub denominators-below-requires-clause-whole : goal.denominators-below-requires-clause-whole

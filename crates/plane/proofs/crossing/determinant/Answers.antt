@@ -1,4 +1,4 @@
-use Rattle.plane.proofs.Crossed.{det_told, det_small}
+use Rattle.plane.proofs.callers.Crossed.{det_told, det_small}
 use Rattle.plane.specs.Ways.{root}
 use Rattle.plane.proofs.crossing.determinant.Goals as goal
 

@@ -1,5 +1,5 @@
 use Rattle.std.proofs.Common.{arith}
-use Rattle.plane.proofs.Crossed.{lift_fits, lift_within}
+use Rattle.plane.proofs.callers.Crossed.{lift_fits, lift_within}
 use Rattle.plane.specs.Ways.{root}
 use Rattle.plane.proofs.crossing.lifted.Goals as goal
 

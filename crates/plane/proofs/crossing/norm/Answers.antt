@@ -2,7 +2,7 @@ use Rattle.std.proofs.Common.{◌∙◌, arith, ◌≤◌, ◌^◌, subst, sym}
 use Rattle.std.specs.Prelude.{ℤ, pos, neg_ℤ, ◌*ℤ◌, unsigned_abs}
 use Rattle.std.proofs.lemmas.Int.{unsigned_abs-mul}
 use Rattle.plane.proofs.Passed.{passed}
-use Rattle.plane.proofs.Crossed.{norm_told, norm_within}
+use Rattle.plane.proofs.callers.Crossed.{norm_told, norm_within}
 use Rattle.plane.specs.Ways.{root}
 use Rattle.plane.proofs.crossing.norm.Goals as goal
 

@@ -1,6 +1,6 @@
 use Rattle.std.proofs.Common.{◌∙◌, ap, arith}
 use Rattle.plane.proofs.Passed.{passed, opposite_passed}
-use Rattle.plane.proofs.Crossed.{partner_down}
+use Rattle.plane.proofs.callers.Crossed.{partner_down}
 use Rattle.plane.specs.Ways.{root}
 use Rattle.plane.proofs.crossing.partner.Goals as goal
 

@@ -1,7 +1,7 @@
 use Rattle.std.proofs.Common.{ap, ◌∙◌, arith}
 use Rattle.geometry.specs.Root.{times}
 use Rattle.plane.proofs.Passed.{passed, below_passed}
-use Rattle.plane.proofs.Crossed.{quotient_some}
+use Rattle.plane.proofs.callers.Crossed.{quotient_some}
 use Rattle.plane.specs.Ways.{root}
 use Rattle.plane.proofs.crossing.quotient.Goals as goal
 

@@ -1,5 +1,5 @@
 use Rattle.std.proofs.Common.{◌<◌, ◌+◌, ◌%◌, arith, ap, ◌∙◌}
-use Rattle.plane.proofs.Imaged.{turned_even, turned_odd, even_small}
+use Rattle.plane.proofs.callers.Imaged.{turned_even, turned_odd, even_small}
 use Rattle.plane.proofs.image.doubled.Goals as goal
 
 pub returns-then-number-eq0-clause-turned : goal.returns-then-number-eq0-clause-turned

@@ -3,8 +3,8 @@ use Rattle.geometry.specs.Root.{Root, plus, times, count, size}
 use Rattle.geometry.proofs.Sizes.{scaled_within}
 use Rattle.plane.specs.Ways.{root}
 use Rattle.plane.proofs.Passed.{passed, below_passed}
-use Rattle.plane.proofs.Crossed.{quotient_some}
-use Rattle.plane.proofs.Imaged.{sum_fits, sum_root, given_none}
+use Rattle.plane.proofs.callers.Crossed.{quotient_some}
+use Rattle.plane.proofs.callers.Imaged.{sum_fits, sum_root, given_none}
 use Rattle.plane.proofs.image.moved.Goals as goal
 
 pub add-top-requires : goal.add-top-requires

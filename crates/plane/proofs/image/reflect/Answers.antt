@@ -2,11 +2,11 @@ use Rattle.std.proofs.Common.{◌<◌, ◌*◌, arith, ap, ◌∙◌, subst, sym
 use Rattle.exact.specs.Number.{ExactNumber, Same, IsRepresentable}
 use Rattle.geometry.specs.Root.{times}
 use Rattle.geometry.specs.Gap.{num, dn, gx, gy}
-use Rattle.qroot2.proofs.Held.{both_same}
+use Rattle.qroot2.proofs.callers.Held.{both_same}
 use Rattle.exact.proofs.Order.{same_turned}
 use Rattle.plane.specs.Ways.{root}
 use Rattle.plane.specs.Crossings.{weight_of}
-use Rattle.plane.proofs.Imaged.{by_x, by_y, image_made, image_self, made_part, neg_small, none_imaged, turned_x, turned_y}
+use Rattle.plane.proofs.callers.Imaged.{by_x, by_y, image_made, image_self, made_part, neg_small, none_imaged, turned_x, turned_y}
 use Rattle.plane.proofs.image.reflect.Goals as goal
 
 pub returns-in_err-x-clause-none : goal.returns-in_err-x-clause-none

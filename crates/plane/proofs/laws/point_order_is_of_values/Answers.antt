@@ -1,4 +1,4 @@
-use Rattle.plane.proofs.Orders.{point_less, point_equal}
+use Rattle.plane.proofs.callers.Orders.{point_less, point_equal}
 use Rattle.plane.proofs.laws.point_order_is_of_values.Goals as goal
 
 pub returns-clause-less : goal.returns-clause-less

@@ -1,4 +1,4 @@
-use Rattle.plane.proofs.Orders.{point_total, point_exact}
+use Rattle.plane.proofs.callers.Orders.{point_total, point_exact}
 use Rattle.plane.proofs.laws.point_order_is_total.Goals as goal
 
 pub returns-clause-total : goal.returns-clause-total

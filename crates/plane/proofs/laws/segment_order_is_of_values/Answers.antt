@@ -1,4 +1,4 @@
-use Rattle.plane.proofs.Orders.{segment_less}
+use Rattle.plane.proofs.callers.Orders.{segment_less}
 use Rattle.plane.proofs.laws.segment_order_is_of_values.Goals as goal
 
 pub returns : goal.returns

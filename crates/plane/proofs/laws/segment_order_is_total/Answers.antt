@@ -1,4 +1,4 @@
-use Rattle.plane.proofs.Orders.{segment_total, segment_exact}
+use Rattle.plane.proofs.callers.Orders.{segment_total, segment_exact}
 use Rattle.plane.proofs.laws.segment_order_is_total.Goals as goal
 
 pub returns-clause-total : goal.returns-clause-total

@@ -1,5 +1,5 @@
-use Rattle.plane.proofs.Told.{fails}
-use Rattle.plane.proofs.Meets.{ends, apart, overlap, part, touch}
+use Rattle.plane.proofs.callers.Told.{fails}
+use Rattle.plane.proofs.callers.Meets.{ends, apart, overlap, part, touch}
 use Rattle.plane.proofs.meeting.collinear.Goals as goal
 
 pub returns-then-is_before-clause-meets : goal.returns-then-is_before-clause-meets

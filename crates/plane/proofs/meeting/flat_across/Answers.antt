@@ -1,4 +1,4 @@
-use Rattle.plane.proofs.Meets.{meets_back}
+use Rattle.plane.proofs.callers.Meets.{meets_back}
 use Rattle.plane.proofs.meeting.flat_across.Goals as goal
 
 pub returns-clause-meets : goal.returns-clause-meets

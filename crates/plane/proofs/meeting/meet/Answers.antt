@@ -1,6 +1,6 @@
 use Rattle.std.proofs.Common.{◌∙◌, sym, subst}
 use Rattle.geometry.specs.Meeting.{Along}
-use Rattle.plane.proofs.Meets.{along_told}
+use Rattle.plane.proofs.callers.Meets.{along_told}
 use Rattle.plane.proofs.meeting.meet.Goals as goal
 
 pub parallel-requires-clause-s : goal.parallel-requires-clause-s

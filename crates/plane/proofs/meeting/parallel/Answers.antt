@@ -1,5 +1,5 @@
-use Rattle.plane.proofs.Told.{fails}
-use Rattle.plane.proofs.Meets.{one_line, two_lines}
+use Rattle.plane.proofs.callers.Told.{fails}
+use Rattle.plane.proofs.callers.Meets.{one_line, two_lines}
 use Rattle.plane.proofs.meeting.parallel.Goals as goal
 
 pub collinear-requires : goal.collinear-requires

@@ -1,6 +1,6 @@
 use Rattle.std.proofs.Common.{inl, inr}
-use Rattle.plane.proofs.Told.{fails}
-use Rattle.plane.proofs.Meets.{not_equal, apart_beside, at_told, out_told}
+use Rattle.plane.proofs.callers.Told.{fails}
+use Rattle.plane.proofs.callers.Meets.{not_equal, apart_beside, at_told, out_told}
 use Rattle.plane.proofs.meeting.slanted.Goals.{then-is_beside-via-then-is_beside, then-is_beside-via-else-is_beside+then-is_beside-2}
 use Rattle.plane.proofs.meeting.slanted.Goals as goal
 
@@ -8,8 +8,8 @@ pub returns-then-is_beside-clause-meets : goal.returns-then-is_beside-clause-mee
 returns-then-is_beside-clause-meets c =
     apart_beside c.args.s.now c.args.t.now c.p-p.result c.p-q.result c.args.k c.args.j c.p-p.ensures.value c.p-q.ensures.value c.requires.s c.requires.t c.requires.different
     (elim c.then-is_beside.branch [
-      | then-is_beside-via-then-is_beside w ↦ inl (c.is_beside.ensures.0 w.if-is_beside.true)
-      | then-is_beside-via-else-is_beside+then-is_beside-2 w ↦ inr (w.is_beside-else-is_beside.ensures.0 w.if-is_beside-2.true)
+      | then-is_beside-via-then-is_beside w ↦ inr (c.is_beside.ensures.0 w.if-is_beside.true)
+      | then-is_beside-via-else-is_beside+then-is_beside-2 w ↦ inl (w.is_beside-else-is_beside.ensures.0 w.if-is_beside-2.true)
     ])
 
 pub cross_lines-requires : goal.cross_lines-requires
@@ -24,8 +24,8 @@ returns-in-Some-clause-meets c =
       first = c.requires.s;
       second = c.requires.t;
       different = c.requires.different;
-      not_first = fails c.is_beside.ensures c.if-is_beside.false;
-      not_second = fails c.is_beside-else-is_beside.ensures c.if-is_beside-2.false;
+      not_first = fails c.is_beside-else-is_beside.ensures c.if-is_beside-2.false;
+      not_second = fails c.is_beside.ensures c.if-is_beside.false;
     })
     c.in-Some.ensures.some
 
@@ -38,7 +38,7 @@ returns-in-None-clause-meets c =
       first = c.requires.s;
       second = c.requires.t;
       different = c.requires.different;
-      not_first = fails c.is_beside.ensures c.if-is_beside.false;
-      not_second = fails c.is_beside-else-is_beside.ensures c.if-is_beside-2.false;
+      not_first = fails c.is_beside-else-is_beside.ensures c.if-is_beside-2.false;
+      not_second = fails c.is_beside.ensures c.if-is_beside.false;
     })
     c.in-None.ensures.none

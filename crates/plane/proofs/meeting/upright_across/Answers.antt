@@ -1,6 +1,6 @@
 use Rattle.std.proofs.Common.{inl, inr}
-use Rattle.plane.proofs.Told.{fails}
-use Rattle.plane.proofs.Meets.{across_at, across_none}
+use Rattle.plane.proofs.callers.Told.{fails}
+use Rattle.plane.proofs.callers.Meets.{across_at, across_none}
 use Rattle.plane.proofs.meeting.upright_across.Goals.{else-is_between-via-then-is_between+else-is_between-2, else-is_between-via-else-is_between}
 use Rattle.plane.proofs.meeting.upright_across.Goals as goal
 

@@ -1,4 +1,4 @@
-use Rattle.plane.proofs.Told.{earlier_second, earlier_first, fails}
+use Rattle.plane.proofs.callers.Told.{earlier_second, earlier_first, fails}
 use Rattle.plane.proofs.order.earlier.Goals as goal
 
 pub returns-then-is_before : goal.returns-then-is_before

@@ -1,6 +1,6 @@
 use Rattle.std.proofs.Common.{ap, ◌∙◌}
 use Rattle.std.specs.Ordering.{is_lt}
-use Rattle.plane.proofs.Told.{less_test}
+use Rattle.plane.proofs.callers.Told.{less_test}
 use Rattle.plane.proofs.order.is_less.Goals as goal
 
 pub returns : goal.returns

@@ -1,4 +1,4 @@
-use Rattle.plane.proofs.Zeros.{fields_told, same_told}
+use Rattle.plane.proofs.callers.Zeros.{fields_told, same_told}
 use Rattle.plane.proofs.order.is_same.Goals as goal
 
 pub returns-clause-same : goal.returns-clause-same

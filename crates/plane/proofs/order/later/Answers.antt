@@ -1,4 +1,4 @@
-use Rattle.plane.proofs.Told.{later_second, later_first, fails}
+use Rattle.plane.proofs.callers.Told.{later_second, later_first, fails}
 use Rattle.plane.proofs.order.later.Goals as goal
 
 pub returns-then-is_before : goal.returns-then-is_before

@@ -1,4 +1,4 @@
-use Rattle.qroot2.proofs.Splits.{lacks_more}
+use Rattle.qroot2.proofs.callers.Splits.{lacks_more}
 use Rattle.plane.proofs.point_text.comma.Goals as goal
 
 pub loop-i-preserved : goal.loop-i-preserved

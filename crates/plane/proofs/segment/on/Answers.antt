@@ -1,4 +1,4 @@
-use Rattle.plane.proofs.Ends.{on_told, off_told}
+use Rattle.plane.proofs.callers.Ends.{on_told, off_told}
 use Rattle.plane.proofs.segment.on.Goals as goal
 
 pub returns-then-is_between : goal.returns-then-is_between

@@ -1,4 +1,4 @@
-use Rattle.plane.proofs.Zeros.{along_told, not_along}
+use Rattle.plane.proofs.callers.Zeros.{along_told, not_along}
 use Rattle.plane.specs.Ways.{root}
 use Rattle.plane.proofs.sides.is_along.Goals as goal
 

@@ -1,4 +1,4 @@
-use Rattle.plane.proofs.Meets.{beside_told}
+use Rattle.plane.proofs.callers.Meets.{beside_told}
 use Rattle.plane.proofs.sides.is_beside.Goals as goal
 
 pub returns : goal.returns

@@ -1,8 +1,8 @@
 use Rattle.std.proofs.Common.{◌≡◌, sym, subst, ◌∙◌, IsTrue}
 use Rattle.std.specs.Prelude.{◌↔◌}
 use Rattle.geometry.specs.Root.{count}
-use Rattle.plane.proofs.Turns.{level_told, plumb_told}
-use Rattle.plane.proofs.Zeros.{offset_cross}
+use Rattle.plane.proofs.callers.Turns.{level_told, plumb_told}
+use Rattle.plane.proofs.callers.Zeros.{offset_cross}
 use Rattle.plane.specs.Ways.{root}
 use Rattle.plane.proofs.sides.is_on_line.Goals as goal
 

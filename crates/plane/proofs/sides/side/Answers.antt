@@ -1,5 +1,5 @@
-use Rattle.plane.proofs.Turns.{side_told}
-use Rattle.plane.proofs.Zeros.{offset_cross}
+use Rattle.plane.proofs.callers.Turns.{side_told}
+use Rattle.plane.proofs.callers.Zeros.{offset_cross}
 use Rattle.plane.specs.Ways.{root}
 use Rattle.std.proofs.Common.{◌∙◌}
 use Rattle.plane.proofs.sides.side.Goals as goal

@@ -4,7 +4,7 @@ use Rattle.std.specs.Int.{w64}
 use Rattle.std.specs.Ordering.{int_cmp}
 use Rattle.std.proofs.lemmas.Int.{to_z-of_z}
 use Rattle.exact.specs.Order.{signed_square}
-use Rattle.qroot2.proofs.Held.{both_same, held_twice}
+use Rattle.qroot2.proofs.callers.Held.{both_same, held_twice}
 use Rattle.qroot2.proofs.squares.by_squares.Goals as goal
 
 pub returns : goal.returns

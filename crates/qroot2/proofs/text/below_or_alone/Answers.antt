@@ -1,6 +1,6 @@
 use Rattle.std.proofs.Common.{refl}
 use Rattle.std.specs.Prelude.{pos, neg_ℤ}
-use Rattle.qroot2.proofs.Reading.{none_long, some_long, empty_none, minus_read_none, minus_read_some, alone_read_none, alone_found, zero_only, tested_some}
+use Rattle.qroot2.proofs.callers.Reading.{none_long, some_long, empty_none, minus_read_none, minus_read_some, alone_read_none, alone_found, zero_only, tested_some}
 use Rattle.qroot2.proofs.ReadingParts.{held_kept, turned_kept}
 use Rattle.qroot2.proofs.text.below_or_alone.Goals as goal
 

@@ -1,8 +1,8 @@
 use Rattle.std.proofs.Common.{◌≡◌, ◌+◌, ◌-◌, ◌*◌, ℕ, get_or, take, arith, ◌∙◌, ap, sym}
 use Rattle.std.proofs.lemmas.List.{take_more}
 use Rattle.qroot2.specs.Digits.{value_on, capped_size}
-use Rattle.qroot2.proofs.Numerals.{value_push}
-use Rattle.qroot2.proofs.Splits.{digits_more, digits_at}
+use Rattle.qroot2.proofs.callers.Numerals.{value_push}
+use Rattle.qroot2.proofs.callers.Splits.{digits_more, digits_at}
 use Rattle.qroot2.proofs.text.digits.Goals as goal
 use Rattle.qroot2.proofs.text.digits.Goals.{then-byte-lt48-via-then-byte-lt48, then-byte-lt48-via-else-byte-lt48+then-byte-gt57}
 

@@ -1,8 +1,8 @@
 use Rattle.std.proofs.Common.{◌≡◌, refl, sym, subst, ap, ◌∙◌, arith}
 use Rattle.std.specs.Prelude.{pos, unsigned_abs}
 use Rattle.exact.specs.Number.{ExactNumber, Same, IsRepresentable}
-use Rattle.qroot2.proofs.Held.{through_64, held_64}
-use Rattle.qroot2.proofs.OneText.{given_text, same_denominator, not_lowest, not_held}
+use Rattle.qroot2.proofs.callers.Held.{through_64, held_64}
+use Rattle.qroot2.proofs.callers.OneText.{given_text, same_denominator, not_lowest, not_held}
 use Rattle.qroot2.proofs.text.in_lowest_terms.Goals as goal
 
 pub returns-then-d : goal.returns-then-d

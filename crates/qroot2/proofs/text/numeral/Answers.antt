@@ -1,4 +1,4 @@
-use Rattle.qroot2.proofs.Reading.{none_long, some_long, no_numeral, no_zeros, numeral_read}
+use Rattle.qroot2.proofs.callers.Reading.{none_long, some_long, no_numeral, no_zeros, numeral_read}
 use Rattle.qroot2.proofs.text.numeral.Goals as goal
 
 pub returns-then-is_empty : goal.returns-then-is_empty

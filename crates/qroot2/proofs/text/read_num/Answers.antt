@@ -1,4 +1,4 @@
-use Rattle.qroot2.proofs.OneText.{read_lowest, tested}
+use Rattle.qroot2.proofs.callers.OneText.{read_lowest, tested}
 use Rattle.qroot2.proofs.text.read_num.Goals as goal
 
 pub returns : goal.returns

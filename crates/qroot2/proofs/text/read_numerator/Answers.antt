@@ -1,6 +1,6 @@
 use Rattle.std.specs.Prelude.{pos}
 use Rattle.std.proofs.Common.{refl}
-use Rattle.qroot2.proofs.Reading.{none_long, some_long}
+use Rattle.qroot2.proofs.callers.Reading.{none_long, some_long}
 use Rattle.qroot2.proofs.ReadingParts.{held_kept, whole_none, root_read, behind_none}
 use Rattle.qroot2.proofs.text.read_numerator.Goals as goal
 

@@ -1,5 +1,5 @@
 use Rattle.std.proofs.Common.{◌≡◌, arith, ap}
-use Rattle.qroot2.proofs.Reading.{none_long, some_long, signed_some, signed_plain, signed_minus_none, signed_minus_zero, signed_minus_some}
+use Rattle.qroot2.proofs.callers.Reading.{none_long, some_long, signed_some, signed_plain, signed_minus_none, signed_minus_zero, signed_minus_some}
 use Rattle.std.proofs.Common.{length}
 use Rattle.qroot2.proofs.text.signed.Goals as goal
 

@@ -1,5 +1,5 @@
 use Rattle.std.proofs.Common.{inl, inr}
-use Rattle.qroot2.proofs.Reading.{summands_none}
+use Rattle.qroot2.proofs.callers.Reading.{summands_none}
 use Rattle.qroot2.proofs.text.summands.Goals as goal
 
 pub returns-then-a-eq0 : goal.returns-then-a-eq0

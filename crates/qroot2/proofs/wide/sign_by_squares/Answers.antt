@@ -2,8 +2,8 @@ use Rattle.std.proofs.Common.{◌∙◌, sym}
 use Rattle.std.specs.Int.{w64}
 use Rattle.std.proofs.lemmas.Int.{to_z-of_z}
 use Rattle.exact.specs.Order.{root_cmp}
-use Rattle.qroot2.proofs.Held.{both_same}
-use Rattle.qroot2.proofs.Signs.{minus_of, zero_of, plus_of}
+use Rattle.qroot2.proofs.callers.Held.{both_same}
+use Rattle.qroot2.proofs.callers.Signs.{minus_of, zero_of, plus_of}
 use Rattle.qroot2.proofs.wide.sign_by_squares.Goals as goal
 
 pub returns-in-Less : goal.returns-in-Less

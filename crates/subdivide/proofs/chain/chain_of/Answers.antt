@@ -2,7 +2,7 @@ use Rattle.std.proofs.Common.{sym, subst}
 use Rattle.std.proofs.lemmas.Result.{err_from_is_err_and}
 use Rattle.exact.specs.Plane.{IsPointCanonical}
 use Rattle.subdivide.specs.Crossings.{IsChainAmong}
-use Rattle.plane.proofs.Orders.{point_exact}
+use Rattle.plane.proofs.callers.Orders.{point_exact}
 use Rattle.subdivide.proofs.ChainAmong.{two_ends, all_canonical, chain_among, refuses_chain}
 use Rattle.subdivide.proofs.chain.chain_of.Goals as goal
 

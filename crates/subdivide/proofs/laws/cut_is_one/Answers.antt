@@ -1,4 +1,4 @@
-use Rattle.subdivide.proofs.OneAnswer.{one_answer}
+use Rattle.subdivide.proofs.callers.OneAnswer.{one_answer}
 use Rattle.subdivide.proofs.laws.cut_is_one.Goals as goal
 
 pub returns : goal.returns

@@ -5,7 +5,7 @@ use Rattle.exact.specs.Plane.{ExactPoint}
 use Rattle.subdivide.specs.Subdivision.{EdgePlaces}
 use Rattle.subdivide.specs.Fans.{IsJoined, IsNoted, HoldRays}
 use Rattle.subdivide.specs.declared.edge.EdgeKind.TheVariants as kind
-use Rattle.subdivide.proofs.FansHeld.{joined, held_more, held_still, all_held}
+use Rattle.subdivide.proofs.callers.FansHeld.{joined, held_more, held_still, all_held}
 use Rattle.subdivide.proofs.stars.fans_of.Goals as goal
 use Rattle.subdivide.proofs.stars.fans_of.Goals.{in-Some, in_default}
 

@@ -1,4 +1,4 @@
-use Rattle.plane.proofs.Supports.{support_made}
+use Rattle.plane.proofs.callers.Supports.{support_made}
 use Rattle.plane.proofs.segment.Seg.with_line.Goals as goal
 
 pub returns-clause-line : goal.returns-clause-line

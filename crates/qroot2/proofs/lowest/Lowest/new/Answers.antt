@@ -3,7 +3,7 @@ use Rattle.std.specs.Prelude.{unsigned_abs}
 use Rattle.std.specs.Int.{w128}
 use Rattle.std.proofs.lemmas.Int.{to_z-of_z}
 use Rattle.qroot2.specs.Num.{Reduces, signed}
-use Rattle.qroot2.proofs.Made.{reduces_same}
+use Rattle.qroot2.proofs.callers.Made.{reduces_same}
 use Rattle.qroot2.proofs.InLowestTerms.{in_lowest_terms}
 use Rattle.qroot2.proofs.lowest.Lowest.new.Goals as goal
 

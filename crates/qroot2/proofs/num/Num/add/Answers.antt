@@ -1,8 +1,8 @@
 use Rattle.std.proofs.Common.{◌≡◌, ◌≤◌, ◌^◌, arith, ap, refl, subst, ◌∙◌}
 use Rattle.std.specs.Prelude.{ℤ, unsigned_abs}
 use Rattle.exact.specs.Number.{ExactNumber, Same, add}
-use Rattle.qroot2.proofs.Held.{held_64, held_scaled, held_plus, both_same}
-use Rattle.qroot2.proofs.Answered.{short_sum, short_sum_is, sum_of, sum_is, some_given, none_given, some_same, none_same}
+use Rattle.qroot2.proofs.callers.Held.{held_64, held_scaled, held_plus, both_same}
+use Rattle.qroot2.proofs.callers.Answered.{short_sum, short_sum_is, sum_of, sum_is, some_given, none_given, some_same, none_same}
 use Rattle.qroot2.proofs.num.Num.add.Goals as goal
 
 pub returns-clause-some : goal.returns-clause-some

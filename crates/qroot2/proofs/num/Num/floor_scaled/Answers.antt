@@ -4,7 +4,7 @@ use Rattle.std.specs.Int.{int_div_euclid}
 use Rattle.exact.specs.Number.{ExactNumber, mul, whole}
 use Rattle.exact.specs.Floor.{IsFloor}
 use Rattle.qroot2.specs.Root.{IsRootPart}
-use Rattle.qroot2.proofs.Held.{through, held_128, held_64, held_sum, sum_size, both_same}
+use Rattle.qroot2.proofs.callers.Held.{through, held_128, held_64, held_sum, sum_size, both_same}
 use Rattle.qroot2.proofs.Roots.{floor_of, quotient, quotient_size}
 use Rattle.qroot2.proofs.num.Num.floor_scaled.Goals as goal
 

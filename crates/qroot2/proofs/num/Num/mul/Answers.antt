@@ -1,7 +1,7 @@
 use Rattle.std.proofs.Common.{arith, ◌∙◌}
 use Rattle.exact.specs.Number.{ExactNumber, mul}
-use Rattle.qroot2.proofs.Held.{held_times, held_plus, both_same}
-use Rattle.qroot2.proofs.Answered.{product_of, product_is, some_given, none_given}
+use Rattle.qroot2.proofs.callers.Held.{held_times, held_plus, both_same}
+use Rattle.qroot2.proofs.callers.Answered.{product_of, product_is, some_given, none_given}
 use Rattle.qroot2.proofs.num.Num.mul.Goals as goal
 
 pub returns-clause-some : goal.returns-clause-some

@@ -3,7 +3,7 @@ use Rattle.std.specs.Prelude.{unsigned_abs}
 use Rattle.std.specs.Int.{w128}
 use Rattle.std.proofs.lemmas.Int.{ints, to_z-of_z}
 use Rattle.qroot2.specs.Num.{Reduces, signed}
-use Rattle.qroot2.proofs.Made.{made, not_held, reduces_same}
+use Rattle.qroot2.proofs.callers.Made.{made, not_held, reduces_same}
 use Rattle.qroot2.proofs.num.Num.new.Goals as goal
 use Rattle.qroot2.proofs.num.Num.new.Goals.{then-x-via-then-x, then-x-via-else-x+then-y, then-x-via-else-x+else-y+then-z}
 

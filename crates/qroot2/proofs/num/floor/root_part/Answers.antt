@@ -4,7 +4,7 @@ use Rattle.std.specs.Int.{w128}
 use Rattle.std.proofs.lemmas.Int.{ints, to_z_pos}
 use lib.Signed.{le_z}
 use Rattle.qroot2.specs.Root.{IsRootPart, IsRootOf}
-use Rattle.qroot2.proofs.Held.{held_64, both_same, turned}
+use Rattle.qroot2.proofs.callers.Held.{held_64, both_same, turned}
 use Rattle.qroot2.proofs.Roots.{part_up, part_down}
 use Rattle.qroot2.proofs.num.floor.root_part.Goals as goal
 

@@ -2,7 +2,7 @@ use Rattle.std.proofs.Common.{sym, ap, ◌∙◌}
 use Rattle.std.specs.Int.{w128}
 use Rattle.std.proofs.lemmas.Int.{to_z-of_z}
 use Rattle.qroot2.specs.declared.sign.Sign.TheVariants as sign
-use Rattle.qroot2.proofs.Signs.{minus_side, plus_side, side_moved}
+use Rattle.qroot2.proofs.callers.Signs.{minus_side, plus_side, side_moved}
 use Rattle.qroot2.proofs.num.order.side.Goals as goal
 
 pub returns-in-Minus : goal.returns-in-Minus

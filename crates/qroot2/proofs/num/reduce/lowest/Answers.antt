@@ -1,5 +1,5 @@
 use Rattle.std.proofs.lemmas.Nat.Gcd.{dvd_trans}
-use Rattle.qroot2.proofs.Reduced.{divisor_above, reduced, reduced_already, reduced_over_one}
+use Rattle.qroot2.proofs.callers.Reduced.{divisor_above, reduced, reduced_already, reduced_over_one}
 use Rattle.qroot2.proofs.num.reduce.lowest.Goals as goal
 
 pub nonzero_div-result : goal.nonzero_div-result

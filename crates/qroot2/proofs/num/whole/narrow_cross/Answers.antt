@@ -1,6 +1,6 @@
 use Rattle.std.proofs.Common.{◌∙◌, arith}
 use Rattle.std.specs.Prelude.{◌-ℤ◌}
-use Rattle.qroot2.proofs.Held.{both_same, held_minus, held_scaled}
+use Rattle.qroot2.proofs.callers.Held.{both_same, held_minus, held_scaled}
 use Rattle.qroot2.proofs.num.whole.narrow_cross.Goals as goal
 
 pub returns-clause-value : goal.returns-clause-value

@@ -1,8 +1,8 @@
 use Rattle.std.proofs.Common.{◌∙◌, arith, ap}
 use Rattle.std.specs.Prelude.{unsigned_abs}
 use Rattle.qroot2.specs.Wide.{Pair}
-use Rattle.qroot2.proofs.Held.{held_64, held_128, through_64}
-use Rattle.qroot2.proofs.Signs.{side_moved}
+use Rattle.qroot2.proofs.callers.Held.{held_64, held_128, through_64}
+use Rattle.qroot2.proofs.callers.Signs.{side_moved}
 use Rattle.qroot2.proofs.wide.Wide.sign.Goals as goal
 
 pub returns-then-unsigned_abs-2 : goal.returns-then-unsigned_abs-2

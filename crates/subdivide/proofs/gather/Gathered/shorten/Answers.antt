@@ -1,7 +1,7 @@
 use Rattle.std.proofs.Common.{◌≡◌, ℕ, ◌<◌, true, refl, arith, ◌∙◌}
 use Rattle.std.specs.Prelude.{nat_lt}
 use Rattle.std.proofs.lemmas.Bool.Decides.{nat_tests}
-use Rattle.plane.proofs.Orders.{point_exact}
+use Rattle.plane.proofs.callers.Orders.{point_exact}
 use Rattle.subdivide.proofs.Gathered.{shortened}
 use Rattle.subdivide.proofs.gather.Gathered.shorten.Goals as goal
 

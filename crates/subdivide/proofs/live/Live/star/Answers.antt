@@ -4,7 +4,7 @@ use Rattle.exact.specs.Plane.{ExactPoint, IsPointCanonical}
 use Rattle.sheet.specs.Pattern.{ExactPattern}
 use Rattle.chains.specs.Chains.{Ascends}
 use Rattle.plane.specs.Order.{point_cmp}
-use Rattle.plane.proofs.Orders.{point_exact}
+use Rattle.plane.proofs.callers.Orders.{point_exact}
 use Rattle.subdivide.specs.Subdivision.{IsVertex}
 use Rattle.subdivide.specs.Star.{StarOf}
 use Rattle.subdivide.specs.Live.{IsCut}

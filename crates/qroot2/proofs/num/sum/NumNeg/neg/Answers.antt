@@ -1,6 +1,6 @@
 use Rattle.std.proofs.Common.{◌∙◌, sym, ap, subst}
 use Rattle.exact.specs.Number.{ExactNumber, IsCanonical, neg}
-use Rattle.qroot2.proofs.Made.{neg_canonical, neg_held}
+use Rattle.qroot2.proofs.callers.Made.{neg_canonical, neg_held}
 use Rattle.qroot2.proofs.num.sum.NumNeg.neg.Goals as goal
 
 pub invariant_of-result : goal.invariant_of-result

@@ -3,7 +3,7 @@ use Rattle.std.proofs.Common.{◌≡◌, ◌≢◌, ℕ, zero, suc, ◌+◌, ◌
 use Rattle.std.proofs.lemmas.List.{take_more}
 use Rattle.qroot2.specs.Text.{numeral}
 use Rattle.qroot2.specs.Digits.{AllDigits, Lacks}
-use Rattle.qroot2.proofs.Numerals.{numeral_is}
+use Rattle.qroot2.proofs.callers.Numerals.{numeral_is}
 
 pub lacks_append : (c : ℕ) (xs ys : List ℕ) → Lacks c xs → Lacks c ys → Lacks c (xs ++ ys)
 lacks_append c [] ys h k = k

@@ -21,9 +21,9 @@ use Rattle.plane.specs.Sides.{IsSide, IsBeside, IsOneSide, IsOnLine}
 use Rattle.plane.specs.declared.outcome.Meet.{Meet}
 use Rattle.plane.specs.declared.outcome.Meet.TheVariants as meet
 use Rattle.plane.specs.Meets.{Meets, AreCollinear}
-use Rattle.plane.proofs.Crossed.{crossing, crossing_itself}
-use Rattle.plane.proofs.Turns.{side_cross}
-use Rattle.plane.proofs.Orders.{point_made}
+use Rattle.plane.proofs.callers.Crossed.{crossing, crossing_itself}
+use Rattle.plane.proofs.callers.Turns.{side_cross}
+use Rattle.plane.proofs.callers.Orders.{point_made}
 use Rattle.plane.proofs.callers.Beside.{beside_turns}
 
 -- the ends of s and t, and the later and the earlier ones

@@ -10,7 +10,7 @@ use Rattle.geometry.proofs.Segments.{on_seg, on_line}
 use Rattle.geometry.proofs.PointOrder.{ordered, before_not_back}
 use Rattle.plane.specs.Segments.{HasEnds}
 use Rattle.plane.specs.declared.segment.SegBad.{SegBad}
-use Rattle.plane.proofs.Told.{fails}
+use Rattle.plane.proofs.callers.Told.{fails}
 
 pub other_order : (p q : ExactPoint) (same before : Bool) → IsTrue same ↔ SamePoint p q → IsTrue before ↔ Before p q → same ≡ false → before ≡ false → Before q p
 other_order p q same before f g e h = elim (ordered p q) [
@@ -59,9 +59,6 @@ none_turned p q b d = (
   ),
   λ h i. h.1 (between q p) (inr (refl, refl)) i,
 )
-
-pub joined_facts : {A B C : Type 0} → A ↔ B → B ↔ C → A ↔ C
-joined_facts f g = (λ a. g.0 (f.0 a), λ c. f.1 (g.1 c))
 
 -- a point between the ends is on the segment where it is on the line
 pub on_told : (s : ExactSegment) (r p : ExactPoint) (k : ℕ) (b : Bool) → IsSegment s → p ≡ s.p → k < 16 → DirOf s.p s.q k → (¬ Before r s.p) × (¬ Before s.q r) → IsTrue b ↔ (cross (vector k) p r ≡ count 0) → IsTrue b ↔ OnSeg r s

@@ -3,9 +3,9 @@ use Rattle.std.proofs.Common.{◌≡◌, ℕ, suc, ◌<◌, ◌≤◌, ◌^◌, 
 use Rattle.std.specs.Fmt.{decimal}
 use Rattle.std.proofs.lemmas.Fmt.{AppendsLastDigit, decimal_from_appends, length-decimal-le, length-decimal-le_succ}
 use Rattle.qroot2.specs.Text.{numeral, numeral_by}
-use Rattle.qroot2.proofs.Numerals.{by_small, by_more}
+use Rattle.qroot2.proofs.callers.Numerals.{by_small, by_more}
 
-appends : AppendsLastDigit numeral_by
+pub appends : AppendsLastDigit numeral_by
 appends = record { one = λ k n h. by_small k n h; more = λ k n h. by_more k n h }
 
 pub numeral_decimal : (n : ℕ) → n < 2 ^ 64 → numeral n ≡ decimal n

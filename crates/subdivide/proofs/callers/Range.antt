@@ -8,12 +8,7 @@ use Rattle.sheet.specs.Pattern.{ExactCrease, ExactPattern, IsPattern}
 use Rattle.subdivide.specs.Subdivision.{OutOfRange, InRange, Answer, CutOf}
 use Rattle.sheet.specs.declared.colour.Colour.TheVariants.{M}
 use Rattle.geometry.proofs.PointOrder.{before_not_back, before_not_same, same_back}
-
-pub segment_not_back : (s t : ExactSegment) → SegmentBefore s t → SegmentBefore t s → ⊥
-segment_not_back s t h k = elim h [
-  | inl a ↦ elim k [ inl b ↦ before_not_back s.p t.p a b | inr b ↦ before_not_same s.p t.p a (same_back t.p s.p b.0) ]
-  | inr a ↦ elim k [ inl b ↦ before_not_same t.p s.p b (same_back s.p t.p a.0) | inr b ↦ before_not_back s.q t.q a.1 b.1 ]
-]
+use Rattle.creases.proofs.callers.Members.{segment_not_back}
 
 segment_not_itself : (s : ExactSegment) → SegmentBefore s s → ⊥
 segment_not_itself s h = segment_not_back s s h h

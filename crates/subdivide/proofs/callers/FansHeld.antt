@@ -21,7 +21,7 @@ use Rattle.subdivide.proofs.PatternLines.{pattern_lines}
 use Rattle.subdivide.proofs.Known.{places_rise}
 use Rattle.subdivide.proofs.Rays.{joining, edge_along, edge_moved, one_mark}
 
-some_is : {X : Type 0} {p q : X} → Some p ≡ Some q → p ≡ q
+pub some_is : {X : Type 0} {p q : X} → Some p ≡ Some q → p ≡ q
 some_is e = cc
 
 abbrev EdgeIn : ExactPattern → List ExactPoint → EdgePlaces → Type 0

@@ -8,7 +8,7 @@ use Rattle.std.specs.Cmp.{IsTotalOrder, nat_cmp_total}
 use Rattle.std.proofs.lemmas.Cmp.{on_total, then_total}
 use Rattle.std.proofs.lemmas.Map.Lookups.{exact_unsigned}
 use Rattle.exact.specs.Order.{triple_cmp}
-use Rattle.exact.proofs.Order.{first_equal, triple_exact, triple_total}
+use Rattle.exact.proofs.Order.{first_equal, triple_exact, triple_total, same_turned}
 use Rattle.exact.specs.Number.{ExactNumber, Same, mul}
 use Rattle.exact.specs.Plane.{ExactPoint, ExactSegment, DirOf, IsSegment, IsZero, Overlap, vector, turn, away}
 use Rattle.exact.proofs.Unique.{unique_lowest, same_trans}
@@ -46,7 +46,7 @@ turn_dn k p =
     dn_sub (mul (vector k).x p.y) (mul (vector k).y p.x)
     ∙ rw (dn_mul (vector k).x p.y, dn_mul (vector k).y p.x, dn_one (vector k).x (vector_whole k).x, dn_one (vector k).y (vector_whole k).y) (down_terms (dn p.x) (dn p.y))
 
-cross_terms : (vx vy px py dpx dpy rx ry drx dry : Root) →
+pub cross_terms : (vx vy px py dpx dpy rx ry drx dry : Root) →
     plus (times (plus (times vx (times ry drx)) (minus (times vy (times rx dry)))) (times dpx dpy)) (minus (times (plus (times vx (times py dpx)) (minus (times vy (times px dpy)))) (times drx dry)))
     ≡ plus (times vx (times (plus (times ry dpy) (minus (times py dry))) (times drx dpx))) (minus (times vy (times (plus (times rx dpx) (minus (times px drx))) (times dry dpy))))
 cross_terms vx vy px py dpx dpy rx ry drx dry = solve (vx ∷ vy ∷ px ∷ py ∷ dpx ∷ dpy ∷ rx ∷ ry ∷ drx ∷ dry ∷ [])
@@ -64,9 +64,6 @@ turn_same k p r = (
   λ s. sym (turns_apart k p r) ∙ none_difference _ _ (sym (same_num (turn (vector k) p) (turn (vector k) r) s)),
   λ e. num_same (turn (vector k) p) (turn (vector k) r) (sym (difference_none _ _ (turns_apart k p r ∙ e))),
 )
-
-flip : (x y : ExactNumber) → Same x y → Same y x
-flip x y s = record { a = sym s.a; b = sym s.b }
 
 -- the line through the lesser end of a segment in its direction
 pub support_made : (s : ExactSegment) (p : ExactPoint) (k : ℕ) (l : ExactLine) → k < 16 → DirOf s.p s.q k → p ≡ s.p → l.dir ≡ k → IsInLowestTerms l.offset → Same l.offset (turn (vector k) p) → IsSupportOf s l
@@ -95,7 +92,7 @@ one_offset s t l m a b e on = lines_equal l m e (unique_lowest l.offset m.offset
     together =
         let here : Same (turn (vector l.dir) s.p) (turn (vector l.dir) t.p) = (turn_same l.dir s.p t.p).1 on.on in
         let there : Same m.offset (turn (vector l.dir) t.p) = subst (λ j. Same m.offset (turn (vector j) t.p)) (sym e) b.offset in
-        same_trans (turn (vector l.dir) t.p) l.offset m.offset (flip l.offset (turn (vector l.dir) t.p) (same_trans (turn (vector l.dir) s.p) l.offset (turn (vector l.dir) t.p) (flip l.offset (turn (vector l.dir) s.p) a.offset) here)) (flip m.offset (turn (vector l.dir) t.p) there)
+        same_trans (turn (vector l.dir) t.p) l.offset m.offset (same_turned l.offset (turn (vector l.dir) t.p) (same_trans (turn (vector l.dir) s.p) l.offset (turn (vector l.dir) t.p) (same_turned l.offset (turn (vector l.dir) s.p) a.offset) here)) (same_turned m.offset (turn (vector l.dir) t.p) there)
 
 -- two directions of segments are one, or not parallel
 one_or_not : (s t : ExactSegment) (k j : ℕ) → Along s k → Along t j → (k ≡ j) ⊎ (k % 8 ≢ j % 8)
@@ -153,7 +150,7 @@ one_line_only s l m h a b =
     let e : l.dir ≡ m.dir = one_along s l.dir m.dir (support_along s l h a) (support_along s m h b) in
     let there : Same m.offset (turn (vector l.dir) s.p) = subst (λ j. Same m.offset (turn (vector j) s.p)) (sym e) b.offset in
     lines_equal l m e (unique_lowest l.offset m.offset a.lowest.positive a.lowest.lowest b.lowest.positive b.lowest.lowest
-    (same_trans (turn (vector l.dir) s.p) l.offset m.offset (flip l.offset (turn (vector l.dir) s.p) a.offset) (flip m.offset (turn (vector l.dir) s.p) there)))
+    (same_trans (turn (vector l.dir) s.p) l.offset m.offset (same_turned l.offset (turn (vector l.dir) s.p) a.offset) (same_turned m.offset (turn (vector l.dir) s.p) there)))
 
 pub line_exact : (l m : ExactLine) → line_cmp l m ≡ o.Equal → l ≡ m
 line_exact l m e = (let parts = first_equal (nat_cmp l.dir m.dir) (triple_cmp l.offset m.offset) e in lines_equal l m (exact_unsigned l.dir m.dir parts.0) (triple_exact l.offset m.offset parts.1))

@@ -6,7 +6,7 @@ use Rattle.std.proofs.lemmas.Int.{ints}
 use Rattle.exact.proofs.Told.{same_itself}
 use Rattle.qroot2.specs.Wide.{Pair, pair_number, pair_add, pair_neg}
 use Rattle.plane.specs.Ways.{root}
-use Rattle.plane.proofs.Passed.{passed_as, sum_size}
+use Rattle.plane.proofs.Passed.{passed_as}
 use Rattle.plane.proofs.Numerators.{number_root}
 use Rattle.std.proofs.lemmas.Bool.Decides.{nat_tests}
 use Rattle.exact.specs.Number.{ExactNumber, Same, IsRepresentable, den, sub, mul as mul_exact, neg as neg_exact}
@@ -15,16 +15,17 @@ use Rattle.geometry.specs.Root.{Root, plus, times, minus, count, size, Above}
 use Rattle.geometry.specs.Gap.{num, dn, gx, gy, cross}
 use Rattle.geometry.proofs.RootRing.{both, plus_comm, plus_zero, plus_minus, times_comm, cancel_plus}
 use Rattle.geometry.proofs.Solve.{at, one, add, mul, opp, solve, times_zero, zero_plus}
-use Rattle.geometry.proofs.Gap.{difference_none, none_difference, num_sub, dn_sub, dn_mul, same_num, num_same, out_right, count_product}
+use Rattle.geometry.proofs.Gap.{difference_none, none_difference, num_sub, dn_sub, dn_mul, same_num, num_same, out_right, count_product, dn_one}
 use Rattle.geometry.proofs.Lines.{On, on_from, on_back, on_trans, on_same, one_point, weight, weight_above, chain}
-use Rattle.geometry.proofs.Directions.{all_below, all_below_at, not_parallel, vector_whole}
+use Rattle.geometry.proofs.Directions.{not_parallel, vector_whole}
 use Rattle.geometry.proofs.Found.{turn_cross, turn_on}
-use Rattle.geometry.proofs.Sizes.{size_minus}
+use Rattle.geometry.proofs.Sizes.{size_minus, sum_size}
 use Rattle.plane.specs.Sides.{turn_of}
 use Rattle.plane.specs.Crossings.{over, weight_of}
 use Rattle.plane.specs.Images.{AreTurned, IsFoot, IsImage}
-use Rattle.plane.proofs.Crossed.{num_over, dn_over, count_weight, crossing, crossing_itself, held}
-use Rattle.plane.proofs.Crossed as crossed
+use Rattle.plane.proofs.callers.Crossed.{num_over, dn_over, count_weight, crossing, crossing_itself, held}
+use Rattle.plane.proofs.callers.Crossed as crossed
+use Rattle.exact.proofs.Turns.{all_below, all_below_at}
 
 -- the direction a quarter turn on
 abbrev pub aside : ℕ → ℕ
@@ -36,7 +37,7 @@ cancel_times x y z h e = difference_none x y (out_right _ z h (
     solve (x ∷ y ∷ z ∷ []) (mul (add (at 0) (opp (at 1))) (at 2)) (add (mul (at 0) (at 2)) (opp (mul (at 1) (at 2)))) refl ∙ none_difference _ _ e))
 
 -- two points equally far aside, seen from a third one
-gap_same : (u a q r : ExactPoint) → times (cross u a q) (weight r) ≡ times (cross u a r) (weight q) → On u q r
+pub gap_same : (u a q r : ExactPoint) → times (cross u a q) (weight r) ≡ times (cross u a r) (weight q) → On u q r
 gap_same u a q r e = record {
   on = out_right (cross u q r) (weight a) (weight_above a) (
       cancel_plus (times (cross u q r) (weight a)) (count 0) (times (cross u a q) (weight r))
@@ -44,11 +45,7 @@ gap_same u a q r e = record {
 }
 
 -- the denominator of the turn to the way from a to r
-dn_one : (v : ExactNumber) → v.d ≡ 1 → dn v ≡ count 1
-unfolding dn
-dn_one v e = ap count (let f : den v ≡ 1 = omega arith in f)
-
-dn_turn : (k : ℕ) (a r : ExactPoint) → dn (turn_of a k r) ≡ times (weight a) (weight r)
+pub dn_turn : (k : ℕ) (a r : ExactPoint) → dn (turn_of a k r) ≡ times (weight a) (weight r)
 unfolding weight
 dn_turn k a r =
     let v = vector k in
@@ -75,7 +72,7 @@ regroup_in cq cp wa wp wq e =
     ∙ ap (times wa) e
     ∙ solve (cp ∷ wa ∷ wq ∷ []) (mul (at 1) (opp (mul (at 0) (at 2)))) (mul (opp (at 0)) (mul (at 1) (at 2))) refl
 
-regroup_out : (cq cp wa wp wq : Root) → Above wa → times cq (times wa wp) ≡ times (minus cp) (times wa wq) → times cq wp ≡ minus (times cp wq)
+pub regroup_out : (cq cp wa wp wq : Root) → Above wa → times cq (times wa wp) ≡ times (minus cp) (times wa wq) → times cq wp ≡ minus (times cp wq)
 regroup_out cq cp wa wp wq h e = cancel_times (times cq wp) (minus (times cp wq)) wa h (
     solve (cq ∷ wa ∷ wp ∷ []) (mul (mul (at 0) (at 2)) (at 1)) (mul (at 0) (mul (at 1) (at 2))) refl
     ∙ e
@@ -147,7 +144,7 @@ no_size x e = both x (count 0) (abs_zero x.a (omega arith)) (abs_zero x.b (omega
     abs_zero (pos n) e = ap pos e
     abs_zero (negsuc n) e = absurd (omega arith)
 
-tested : (m n : ℕ) → cond (eqb m 0) (eqb n 0) false ≡ true → (m ≡ 0) × (n ≡ 0)
+pub tested : (m n : ℕ) → cond (eqb m 0) (eqb n 0) false ≡ true → (m ≡ 0) × (n ≡ 0)
 tested m n e = (grind (arith, nat_tests), grind (arith, nat_tests))
 
 none_minus : (x y : Root) → plus x y ≡ count 0 → x ≡ minus y
@@ -256,7 +253,7 @@ made_upright k a p c t h r =
     ∙ upright_core (num (vector k).x) (num (vector k).y) c t (gx a p) (gy a p) (weight a) (weight p) (count 2) r.along r.across
     ∙ ap (λ z. times z (weight p)) (sym (cross_image (vector (aside k)) a p _ _ ∙ rw (u.0, u.1) refl)))
 
-on_gap : (u a q r : ExactPoint) → On u q r → times (cross u a r) (weight q) ≡ times (cross u a q) (weight r)
+pub on_gap : (u a q r : ExactPoint) → On u q r → times (cross u a r) (weight q) ≡ times (cross u a q) (weight r)
 on_gap u a q r o = chain u a q r ∙ ap (plus (times (cross u a q) (weight r))) (ap (λ z. times z (weight a)) o.on ∙ times_comm (count 0) (weight a) ∙ times_zero (weight a)) ∙ plus_zero _
 
 opposite_moved : (k : ℕ) (a p q r : ExactPoint) → SamePoint q r → Opposite k a p q → Opposite k a p r

@@ -7,7 +7,7 @@ use Rattle.exact.proofs.Kept.{tall}
 use Rattle.exact.proofs.Ring.{is_eq, is_add, is_mul, is_atom, is_lit}
 use Rattle.exact.proofs.Told.{same_on}
 use Rattle.exact.proofs.Unique.{triple}
-use Rattle.qroot2.proofs.Held.{through, held_128, both_same}
+use Rattle.qroot2.proofs.callers.Held.{through, held_128, both_same}
 
 -- the triple that `Num::new` was given
 abbrev pub given : ℤ → ℤ → ℤ → ExactNumber

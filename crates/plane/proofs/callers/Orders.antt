@@ -10,7 +10,7 @@ use Rattle.exact.specs.Order.{num_cmp, real_cmp}
 use Rattle.exact.specs.Plane.{ExactPoint, ExactSegment, SamePoint, Before, SegmentBefore, IsPointCanonical}
 use Rattle.exact.proofs.Order.{num_total, num_exact, first_equal}
 use Rattle.exact.proofs.Unique.{unique}
-use Rattle.qroot2.proofs.Signs.{values_decide}
+use Rattle.qroot2.proofs.callers.Signs.{values_decide}
 use Rattle.geometry.proofs.PointOrder.{point_real_cmp, before_cmp, same_cmp, first_less}
 use Rattle.plane.specs.Order.{point_cmp, segment_cmp}
 use Rattle.plane.specs.Segments.{HasCanonicalEnds}

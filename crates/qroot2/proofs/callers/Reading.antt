@@ -7,9 +7,9 @@ use Rattle.std.proofs.lemmas.Int.{ints, to_z-of_z, to_z_pos, fits_signed_from_ab
 use Rattle.std.proofs.lemmas.Bool.Decides.{nat_tests}
 use Rattle.qroot2.specs.Text.{numeral, signed_text, both_text, summand_text}
 use Rattle.qroot2.specs.Digits.{AllDigits, Lacks, value_on, capped, capped_size, AreSummands, AreBoth}
-use Rattle.qroot2.proofs.Numerals.{numeral_is, numeral_value, numeral_injective}
+use Rattle.qroot2.proofs.callers.Numerals.{numeral_is, numeral_value, numeral_injective}
 use Rattle.std.proofs.lemmas.List.{take_all, take_rest, drop_more, take-append-drop}
-use Rattle.qroot2.proofs.Splits.{lacks_append, lacks_not, split_unique, lacks_numeral, digits_at}
+use Rattle.qroot2.proofs.callers.Splits.{lacks_append, lacks_not, split_unique, lacks_numeral, digits_at}
 
 pub none_long : (r : Bool) (n : ℕ) → r ≡ (n == 0) → r ≡ true → n ≡ 0
 none_long r n e f = grind (arith, nat_tests)

@@ -6,17 +6,17 @@ use Rattle.std.proofs.lemmas.List.Elements.{All-contains}
 use Rattle.exact.specs.Plane.{ExactPoint, ExactSegment, Before, SegmentBefore, IsPointCanonical}
 use Rattle.geometry.proofs.PointOrder.{before_not_back}
 use Rattle.sheet.specs.Pattern.{ExactCrease, ExactPattern, IsPattern}
-use Rattle.plane.proofs.Orders.{point_unique}
-use Rattle.chains.proofs.Sorted.{same_lists}
+use Rattle.plane.proofs.callers.Orders.{point_unique}
+use Rattle.chains.proofs.callers.Sorted.{same_lists}
 use Rattle.subdivide.specs.Subdivision.{IsVertex, IsEdge, OutOfRange, EdgePlaces, AreVertices, AreEdges, PlacesBefore, Answer, CutOf, vertex_limit}
-use Rattle.subdivide.proofs.Range.{stands, some_crease, earlier}
+use Rattle.subdivide.proofs.callers.Range.{stands, some_crease, earlier}
 
-vertices_within : (pattern : ExactPattern) (vs ws : List ExactPoint) → AreVertices pattern vs → AreVertices pattern ws → (v : ExactPoint) → Contains vs v → Contains ws v
+pub vertices_within : (pattern : ExactPattern) (vs ws : List ExactPoint) → AreVertices pattern vs → AreVertices pattern ws → (v : ExactPoint) → Contains vs v → Contains ws v
 vertices_within pattern vs ws a b v c =
     let w = b.all v (All-contains (IsVertex pattern) vs v a.each c) in
     subst (Contains ws) (sym (point_unique v w.0 (All-contains IsPointCanonical vs v a.canonical c) (All-contains IsPointCanonical ws w.0 b.canonical w.1) w.2)) w.1
 
-one_vertices : (pattern : ExactPattern) (vs ws : List ExactPoint) → AreVertices pattern vs → AreVertices pattern ws → vs ≡ ws
+pub one_vertices : (pattern : ExactPattern) (vs ws : List ExactPoint) → AreVertices pattern vs → AreVertices pattern ws → vs ≡ ws
 one_vertices pattern vs ws a b = same_lists Before before_not_back vs ws a.ordered b.ordered (vertices_within pattern vs ws a b) (vertices_within pattern ws vs b a)
 
 places_not_back : (e f : EdgePlaces) → PlacesBefore e f → PlacesBefore f e → ⊥
@@ -57,7 +57,7 @@ one_pair pattern p s t u v o l m n = elim (order_cases pattern p s u o.1 m.1) [
   | inr k ↦ elim k [ inl a ↦ absurd (n s t o (inl a)) | inr b ↦ absurd (l u v m (inl b)) ]
 ]
 
-too_many : (pattern : ExactPattern) (vs ws : List ExactPoint) → AreVertices pattern vs → AreVertices pattern ws → vertex_limit < length vs → length ws ≤ vertex_limit → ⊥
+pub too_many : (pattern : ExactPattern) (vs ws : List ExactPoint) → AreVertices pattern vs → AreVertices pattern ws → vertex_limit < length vs → length ws ≤ vertex_limit → ⊥
 too_many pattern vs ws a b m f = omega (arith, m, f, ap length (one_vertices pattern vs ws a b))
 
 pub one_answer : (pattern : ExactPattern) (x y : Answer) → IsPattern pattern → CutOf pattern x → CutOf pattern y → x ≡ y

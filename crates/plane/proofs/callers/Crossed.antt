@@ -9,23 +9,23 @@ use Rattle.exact.proofs.Told.{same_itself}
 use Rattle.std.proofs.lemmas.Int.{ints, unsigned_abs-mul}
 use Rattle.std.proofs.lemmas.Nat.{mul-le}
 use borrow.Author.Tests.{ltb-true}
-use Rattle.plane.proofs.Passed.{sum_size}
 use Rattle.qroot2.specs.Wide.{Pair, pair_number}
 use Rattle.geometry.specs.Root.{Root, plus, times, minus, count, size}
 use Rattle.geometry.specs.Gap.{num, dn, det, norm, partner, signed_as}
 use Rattle.geometry.proofs.RootRing.{both}
 use Rattle.geometry.proofs.Domain.{above_count}
-use Rattle.geometry.proofs.Gap.{same_num, tall, count_product}
+use Rattle.geometry.proofs.Gap.{same_num, count_product}
 use Rattle.geometry.proofs.Lines.{On, on_from, one_point, weight}
 use Rattle.geometry.proofs.Parts.{solution, from_inverse, level_of}
 use Rattle.geometry.proofs.Partner.{partner_times, norm_size}
 use Rattle.geometry.proofs.Directions.{not_parallel, vector_whole}
 use Rattle.geometry.proofs.Found.{turn_det, turn_on}
-use Rattle.geometry.proofs.Sizes.{det_within, turned_within, scaled_within, size_scaled}
+use Rattle.geometry.proofs.Sizes.{det_within, turned_within, scaled_within, size_scaled, sum_size}
 use Rattle.plane.specs.Ways.{root, offset_of}
 use Rattle.plane.specs.Sides.{IsOnLine}
 use Rattle.plane.specs.Crossings.{over, weight_of, lift_of}
 use Rattle.plane.proofs.Numerators.{number_root}
+use Rattle.exact.proofs.Kept.{tall}
 
 -- the determinant of two directions
 pub det_told : (k j : ℕ) (d : Pair) → pair_number d ≡ turn (vector j) (vector k) → root d ≡ det (vector j) (vector k)

@@ -3,7 +3,7 @@ use Rattle.std.proofs.Common.{◌≡◌, ℕ, zero, suc, ◌*◌, ◌<◌, ◌�
 use Rattle.std.specs.Prelude.{ℤ, pos, negsuc, neg_ℤ, ◌*ℤ◌, ◌-ℤ◌, unsigned_abs}
 use Rattle.std.specs.Int.{◌∣◌, cast_signed, cast_unsigned, w64}
 use Rattle.std.proofs.lemmas.Int.{ints, to_z-of_z, fits_signed_from_abs}
-use Rattle.exact.proofs.Ring.{is_eq, is_mul, is_neg, is_atom, is_lit}
+use Rattle.exact.proofs.Ring.{is_eq, is_mul, is_neg, is_atom, is_lit, neg_size}
 use Rattle.exact.proofs.Unique.{unique_lowest, same_trans, triple}
 use Rattle.exact.specs.Number.{ExactNumber, IsCanonical, IsLowest, IsRepresentable, Same, neg}
 use Rattle.qroot2.specs.Num.{Reduces, signed}
@@ -81,11 +81,6 @@ not_held a b d x y z p h rep =
 -- the same triple, named otherwise
 pub reduces_same : (a b d a' b' d' x y z : ℕ) → a ≡ a' → b ≡ b' → d ≡ d' → Reduces a b d x y z → Reduces a' b' d' x y z
 reduces_same a b d a' b' d' x y z e f g h = record { factor = (h.factor.0, h.factor.1, sym e ∙ h.factor.2, sym f ∙ h.factor.3, sym g ∙ h.factor.4); lowest = h.lowest }
-
-neg_size : (z : ℤ) → unsigned_abs (neg_ℤ z) ≡ unsigned_abs z
-neg_size (pos zero) = refl
-neg_size (pos (suc n)) = refl
-neg_size (negsuc n) = refl
 
 pub neg_canonical : (x : ExactNumber) → IsCanonical x → IsCanonical (neg x)
 neg_canonical x c = record {

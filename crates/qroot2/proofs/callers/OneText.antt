@@ -9,12 +9,12 @@ use Rattle.qroot2.specs.declared.text.NumText.{NumText}
 use Rattle.qroot2.specs.declared.text.NumText.TheVariants as answer
 use Rattle.qroot2.specs.Text.{numeral, signed_text, both_text, numerator_text, denominator_text, number_text, IsWithinLimits, Reads}
 use Rattle.qroot2.specs.Digits.{Lacks, capped, capped_size}
-use Rattle.qroot2.proofs.Numerals.{numeral_injective}
-use Rattle.qroot2.proofs.Splits.{lacks_append, lacks_not, split_unique, lacks_numeral}
-use Rattle.qroot2.proofs.Reading.{signed_injective, headed, capped_abs}
+use Rattle.qroot2.proofs.callers.Numerals.{numeral_injective}
+use Rattle.qroot2.proofs.callers.Splits.{lacks_append, lacks_not, split_unique, lacks_numeral}
+use Rattle.qroot2.proofs.callers.Reading.{signed_injective, headed, capped_abs}
 use Rattle.qroot2.proofs.ReadingParts.{signed_lacks, both_lacks, numerator_lacks}
-use Rattle.qroot2.proofs.Held.{through, through_64, held_128, held_64}
-use Rattle.qroot2.proofs.Answered.{given}
+use Rattle.qroot2.proofs.callers.Held.{through, through_64, held_128, held_64}
+use Rattle.qroot2.proofs.callers.Answered.{given}
 
 -- the three shapes of a text of two parts
 data Shape (a b : ℤ) (ds : List ℕ) : Type 0 where

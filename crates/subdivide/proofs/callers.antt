@@ -1,0 +1,4 @@
+-- What the crates above may cite.
+pub mod OneAnswer
+pub mod Range
+pub mod FansHeld
