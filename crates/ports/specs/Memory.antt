@@ -6,7 +6,8 @@ pub record CallsState : Type 0 where
   pub fail : List ℕ
   pub made : ℕ
 
--- A source in memory: what is left, how much a call gives at most, which calls fail, and the calls and faults so far.
+-- A source in memory: what is left, how much a call gives at most, which calls fail, and the calls
+-- and faults so far.
 pub record SourceState : Type 0 where
   pub left : List ℕ
   pub chunk : ℕ
@@ -22,7 +23,8 @@ pub record SinkState : Type 0 where
   pub calls : ℕ
   pub faults : ℕ
 
--- The number of the next call. It stands still at 2^128 - 1, which no run reaches; past 2^64 - 1 it is in no list of u64.
+-- The number of the next call. It stands still at 2^128 - 1, which no run reaches; past 2^64 - 1 it
+-- is in no list of u64.
 abbrev pub counted : ℕ → ℕ
 counted n = min (n + 1) (2 ^ 128 - 1)
 

@@ -3,7 +3,8 @@ use Rattle.std.specs.Prelude.{Result, Ok, Err}
 use Rattle.ports.specs.declared.stop.Stop.{Stop}
 use Rattle.ports.specs.declared.stop.Stop.TheVariants as stop
 
--- a call may end with this, where these are the right answers: there was no memory, or it is the right refusal
+-- a call may end with this, where these are the right answers: there was no memory, or it is the
+-- right refusal
 abbrev pub Refuses : {A E : Type 0} → (Result A E → Type 0) → Stop E → Type 0
 Refuses IsRight (stop.Why e) = IsRight (Err e)
 Refuses IsRight stop.NoMemory = Unit {0}

@@ -1,7 +1,9 @@
 -- What a take does to a source, a put to a sink, and when they may fail.
-use Rattle.std.specs.Prelude.{◌≡◌, ℕ, ◌+◌, ◌-◌, ◌^◌, ◌<◌, ◌≤◌, min, List, [], ◌++◌, length, take, Option, Some, None, Result, Ok, Err, OnErr}
+use Rattle.std.specs.Prelude.{◌≡◌, ℕ, ◌+◌, ◌-◌, ◌^◌, ◌<◌, ◌≤◌, min, List, [], ◌++◌, length, take, Option}
+use Rattle.std.specs.Prelude.{Some, None, Result, Ok, Err, OnErr}
 
--- What an object has beside what a trait tells of it: nothing, or the count of faults and the bytes of its other side.
+-- What an object has beside what a trait tells of it: nothing, or the count of faults and the bytes
+-- of its other side.
 pub data Aside : Type 0 where
   Alone : Aside
   Beside : ℕ → Option (List ℕ) → Aside

@@ -1,5 +1,6 @@
 //! A source and a sink in memory, with calls that fail at numbers of choice.
-ghost use Rattle.std.specs.Prelude.{◌≡◌, ◌≤◌, ◌<◌, ◌+◌, [], Some, vec_capacity, IsErr, IfOk, ◌↔◌, Contains, ◌⊎◌, length, refl};
+ghost use Rattle.std.specs.Prelude.{◌≡◌, ◌≤◌, ◌<◌, ◌+◌, Some, vec_capacity, IsErr, IfOk, ◌↔◌, Contains, ◌⊎◌};
+ghost use Rattle.std.specs.Prelude.{length};
 ghost use Rattle.ports.specs.Streams.{Alone, Takes, Puts, HasCause};
 ghost use Rattle.ports.specs.Memory.{counted, CountsFault, KeepsPlan, KeepsRoom};
 
@@ -22,7 +23,13 @@ impl Model for MemSource {
 
     ghost Value = { SourceState };
 
-    ghost view = { λ s. record { left = drop s.at s.bytes.items; chunk = s.chunk; fail = s.calls.fail; calls = s.calls.made; faults = s.faults } };
+    ghost view = { λ s. record {
+      left = drop s.at s.bytes.items;
+      chunk = s.chunk;
+      fail = s.calls.fail;
+      calls = s.calls.made;
+      faults = s.faults;
+    } };
 
     ghost invariant = { λ s. (s.at ≤ length s.bytes.items) × (0 < s.chunk) };
 }
@@ -32,7 +39,13 @@ impl MemSource {
     /// numbers, counted from 1, are in `fail` answer `Failed`.
     pub fn new(bytes: Vec<u8>, chunk: usize, fail: Vec<u64>) -> MemSource
         requires { 0 < chunk }
-        ensures { result ≡ record { left = bytes.items; chunk = chunk; fail = fail.items; calls = 0; faults = 0 } }
+        ensures { result ≡ record {
+          left = bytes.items;
+          chunk = chunk;
+          fail = fail.items;
+          calls = 0;
+          faults = 0;
+        } }
     {
         MemSource {
             bytes,
@@ -87,7 +100,13 @@ impl Model for MemSink {
 
     ghost Value = { SinkState };
 
-    ghost view = { λ s. record { held = s.bytes.items; room = s.room; fail = s.calls.fail; calls = s.calls.made; faults = s.faults } };
+    ghost view = { λ s. record {
+      held = s.bytes.items;
+      room = s.room;
+      fail = s.calls.fail;
+      calls = s.calls.made;
+      faults = s.faults;
+    } };
 
     ghost invariant = { λ s. s.room ≤ vec_capacity s.bytes };
 }
@@ -97,7 +116,13 @@ impl MemSink {
     /// where its number, counted from 1, is in `fail` or it does not fit.
     pub fn new(bytes: Vec<u8>, room: usize, fail: Vec<u64>) -> MemSink
         requires { room ≤ vec_capacity bytes }
-        ensures { result ≡ record { held = bytes.items; room = room; fail = fail.items; calls = 0; faults = 0 } }
+        ensures { result ≡ record {
+          held = bytes.items;
+          room = room;
+          fail = fail.items;
+          calls = 0;
+          faults = 0;
+        } }
     {
         MemSink {
             bytes,
@@ -125,7 +150,9 @@ impl Sink for MemSink {
     fn put(&mut self, piece: &[u8]) -> Result<(), Failed>
         ensures bytes { Puts (Some self.old.held) (Some self.new.held) piece.now result }
         ensures cause { HasCause self.old.faults self.new.faults result }
-        ensures failed { IsErr result ↔ (Contains self.old.fail (counted self.old.calls) ⊎ (self.old.room < length self.old.held + length piece.now)) }
+        ensures failed { IsErr result
+            ↔ (Contains self.old.fail (counted self.old.calls)
+            ⊎ (self.old.room < length self.old.held + length piece.now)) }
         ensures counts { CountsFault self.old.faults self.new.faults result }
         ensures stays { KeepsRoom self.old self.new }
     {

@@ -1,5 +1,5 @@
 //! Standard input as a source and standard output as a sink. They tell nothing of their bytes.
-ghost use Rattle.std.specs.Prelude.{◌≡◌, ◌≤◌, length, None};
+ghost use Rattle.std.specs.Prelude.{◌≡◌, None};
 ghost use Rattle.ports.specs.Streams.{Alone};
 
 use crate::{Failed, Sink, Source};

@@ -1,5 +1,5 @@
 //! Where bytes come from and where they go.
-ghost use Rattle.std.specs.Prelude.{◌≡◌, ℕ, List, Option, Some, ◌≤◌, length};
+ghost use Rattle.std.specs.Prelude.{◌≡◌, ℕ, List, Option};
 ghost use Rattle.ports.specs.Streams.{Aside, Takes, Puts, HasCause};
 
 /// A call to the outside failed, and its object's count of faults rose.
