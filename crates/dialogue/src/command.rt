@@ -1,10 +1,10 @@
 //! Commands: questions, a new project, and changes of one.
-use crate::Name;
 use edits::Edit;
 use lattice::Lattice;
 use plane::Point;
 use ports::Listed;
 use sheet::Sheet;
+use vocabulary::Name;
 
 /// The greatest rev that a project can have. A rev says how often a project was changed.
 pub const LAST_REV: u64 = 1_000_000_000_000;

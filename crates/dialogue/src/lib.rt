@@ -3,13 +3,8 @@
 
 mod cause;
 mod command;
-mod name;
 mod reply;
 
 pub use cause::Cause;
 pub use command::{Change, Command, LAST_REV};
-pub use name::{Name, NotName};
 pub use reply::Reply;
-
-#[cfg(test)]
-mod tests;

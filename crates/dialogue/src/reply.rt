@@ -1,9 +1,10 @@
 //! What a command is answered.
-use crate::{Cause, Name};
+use crate::Cause;
 use judge::{Fault, Report};
 use plane::Point;
 use ports::Listed;
 use subdivide::Subdivision;
+use vocabulary::Name;
 
 /// What a command is answered.
 #[derive(Drop)]

@@ -12,7 +12,7 @@ use Rattle.dialogue.specs.declared.command.Change.{Change}
 use Rattle.dialogue.specs.declared.command.Change.TheVariants as change
 use Rattle.dialogue.specs.declared.command.Command.{Command}
 use Rattle.dialogue.specs.declared.command.Command.TheVariants as command
-use Rattle.qroot2.proofs.Held.{both_same}
+use Rattle.qroot2.proofs.callers.Held.{both_same}
 use Rattle.generator.specs.Turns.{IsPoint, IsStroke, IsDrawn, IsTurnChange, IsTurn, next_state, number, colour}
 
 pub drawn : (s t u v w c i j l k : ℕ) (e : Edit) → t ≡ next_state s → u ≡ next_state t → v ≡ next_state u → w ≡ next_state v

@@ -9,7 +9,7 @@ use Rattle.exact.proofs.Told.{same_on}
 use Rattle.exact.proofs.Unique.{triple}
 use Rattle.lattice.specs.Lattice.{fraction}
 use Rattle.qroot2.specs.Wide.{Pair, pair_number}
-use Rattle.qroot2.proofs.Held.{through, held_128}
+use Rattle.qroot2.proofs.callers.Held.{through, held_128}
 use Rattle.generator.specs.Turns.{sixteenths}
 
 part_small : (n : ℕ) (a : ℤ) → n ≤ 16 → unsigned_abs a ≤ 1 → unsigned_abs (pos n *ℤ a) ≤ 16

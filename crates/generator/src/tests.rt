@@ -1,12 +1,13 @@
 //! The first turns of two seeds, worked by hand from the numbers.
 
 use crate::Generator;
-use dialogue::{Change, Command, Name};
+use dialogue::{Change, Command};
 use edits::Edit;
 use plane::{Point, read_point};
 use sheet::Colour;
 use std::process::Abort;
 use std::test::Fail;
+use vocabulary::Name;
 
 fn turn(rt: &impl Abort, generator: &mut Generator, name: &Name) -> Change {
     match generator.command(name) {

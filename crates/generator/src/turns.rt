@@ -1,14 +1,16 @@
 //! The generator and its turns.
 ghost use Rattle.std.specs.Prelude.{◌≡◌, ◌<◌, ◌≤◌, ◌%◌};
-ghost use Rattle.generator.specs.Turns.{IsTurn, IsTurnChange, IsDrawn, IsStroke, after, next_state, number, colour as colour_of};
+ghost use Rattle.generator.specs.Turns.{IsTurn, IsTurnChange, IsDrawn, IsStroke, after, next_state, number};
+ghost use Rattle.generator.specs.Turns.{colour as colour_of};
 
 use crate::place::{ahead, at};
-use dialogue::{Change, Command, Name};
+use dialogue::{Change, Command};
 use edits::Edit;
 use plane::Point;
 use qroot2::Dir;
 use sheet::Colour;
 use std::marker::Model;
+use vocabulary::Name;
 
 /// A generator of commands. Equal seeds give equal commands, whatever the project answers.
 #[derive(Clone, Copy, Debug, PartialEq, Eq)]

@@ -2,9 +2,10 @@ use Rattle.std.proofs.Common.{refl, arith}
 use Rattle.std.specs.Prelude.{pos}
 use Rattle.exact.specs.Number.{ExactNumber, Same}
 use Rattle.lattice.specs.Lattice.{fraction}
-use Rattle.lattice.proofs.Passed.{representable, is_some, some_tells}
-use Rattle.qroot2.proofs.Answered.{some_given, none_given}
+use Rattle.lattice.proofs.callers.Passed.{representable, is_some}
+use Rattle.qroot2.proofs.callers.Answered.{some_given, none_given}
 use Rattle.generator.proofs.place.over_sixteen.Goals as goal
+use Rattle.exact.proofs.Told.{some_tells}
 
 pub unwrap-requires : goal.unwrap-requires
 unwrap-requires c =

@@ -1,7 +1,7 @@
 use Rattle.std.proofs.Common.{◌≡◌, take}
 use Rattle.std.specs.Prelude.{All}
-use Rattle.dialogue.specs.Names.{IsNameByte}
-use Rattle.dialogue.proofs.name.Name.new.Given as goal
+use Rattle.vocabulary.specs.Names.{IsNameByte}
+use Rattle.vocabulary.proofs.name.Name.new.Given as goal
 
 abbrev pub invariant-loop-byte : goal.invariant-loop-byte
 invariant-loop-byte l = record {

@@ -1,8 +1,8 @@
 use Rattle.std.proofs.Common.{◌<◌, ◌++◌, ◌∷◌, [], get_or, sym, subst, ap, ◌∙◌}
 use Rattle.std.proofs.lemmas.List.Elements.{All-more}
-use Rattle.dialogue.specs.Names.{IsNameByte}
-use Rattle.dialogue.proofs.NameBytes.{is_ascii, one_more}
-use Rattle.dialogue.proofs.name.Name.new.Goals as goal
+use Rattle.vocabulary.specs.Names.{IsNameByte}
+use Rattle.vocabulary.proofs.NameBytes.{is_ascii, one_more}
+use Rattle.vocabulary.proofs.name.Name.new.Goals as goal
 
 pub loop-byte-preserved : goal.loop-byte-preserved
 loop-byte-preserved c =

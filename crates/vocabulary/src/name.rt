@@ -1,13 +1,13 @@
 //! Names of projects.
-ghost use Rattle.std.specs.Prelude.{◌≡◌, ℕ, ◌↔◌, ◌++◌, ◌∷◌, ◌<◌, length, IfOk, IsOk, IsTrue, OnOk, Some, refl};
-ghost use Rattle.std.specs.Ordering.{nat_cmp};
+ghost use Rattle.std.specs.Prelude.{◌≡◌, ℕ, ◌↔◌, ◌<◌, IfOk, IsOk, IsTrue, Some, refl};
 ghost use Rattle.std.specs.Cmp.{partial_equiv_from_equiv};
-ghost use Rattle.std.specs.Cmp.Lexicographic.{pointwise, nat_list_eq_equiv, nat_list_cmp_total, texts_po, texts_ties};
+ghost use Rattle.std.specs.Cmp.Lexicographic.{pointwise, nat_list_eq_equiv, nat_list_cmp_total, texts_po};
+ghost use Rattle.std.specs.Cmp.Lexicographic.{texts_ties};
 ghost use Rattle.std.specs.Prelude.{nat_eq};
 ghost use Rattle.std.specs.Cmp.Rules.{hashing};
 ghost use Rattle.std.specs.Hash as fed;
 ghost use Rattle.std.proofs.Common.{rules};
-ghost use Rattle.dialogue.specs.Names.{IsName, IsNameByte, name_cmp};
+ghost use Rattle.vocabulary.specs.Names.{IsName, IsNameByte, name_cmp};
 
 use arrayvec::ArrayString;
 use std::cmp::Ordering;
@@ -23,7 +23,7 @@ pub struct Name {
 
 impl Model for Name {
     ghost use Rattle.std.specs.Prelude.{List, ℕ};
-    ghost use Rattle.dialogue.specs.Names.{IsName};
+    ghost use Rattle.vocabulary.specs.Names.{IsName};
 
     ghost Value = { List ℕ };
 

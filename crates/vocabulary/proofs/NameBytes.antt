@@ -1,7 +1,7 @@
 -- The bytes of a name, one after another.
 use Rattle.std.proofs.Common.{◌≡◌, ℕ, ◌+◌, ◌<◌, List, [], ◌∷◌, ◌++◌, length, get_or, take, sym, ap, ◌∙◌, inl, inr, arith}
 use Rattle.std.proofs.lemmas.List.{take_more}
-use Rattle.dialogue.specs.Names.{IsNameByte}
+use Rattle.vocabulary.specs.Names.{IsNameByte}
 
 pub is_ascii : (b : ℕ) → IsNameByte b → b < 128
 is_ascii b h = elim h [

@@ -1,0 +1,3 @@
+pub mod Names
+pub mod Verbs
+pub mod Numbers
