@@ -17,6 +17,7 @@ use Rattle.sheet.specs.Pattern.{ExactCrease}
 use Rattle.creases.specs.Creases.{Ascends}
 use Rattle.creases.proofs.callers.Overlaps.{ended, one_way}
 use Rattle.pattern.specs.Fitting.{AreApart}
+use Rattle.plane.proofs.callers.Meets.{along_told}
 
 not_positive : ¬ Positive (pos 0) (pos 0)
 not_positive (inl h) = omega (arith, h.2)
@@ -35,24 +36,21 @@ not_on p r k s h n on = by s h n ((turn_on k p r).1 on)
     by sign.Zero g m z = m refl
     by sign.Plus g m z = not_positive (subst (λ (a : ℤ). Positive a (pos 0)) z.0 (subst (λ (b : ℤ). Positive (turn_of p k r).a b) z.1 g))
 
-along_with : (s : ExactSegment) (k : ℕ) → IsSegment s → k < 16 → DirOf s.p s.q k → Along s k
-along_with s k h l d = record { small = l; ordered = h.0; dir = d }
-
 -- ---- one line or not
 pub off_line : (s t : ExactSegment) (k : ℕ) (x : Sign) → IsSegment s → IsSegment t → k < 16 → DirOf s.p s.q k → IsSide s.p k t.p x → x ≢ sign.Zero → ¬ Overlap s t
 off_line s t k x h g l d i n v =
     let a = along_of t g in
-    let one : k ≡ a.0 = one_way s t k a.0 (along_with s k h l d) a.1 v in
-    none_common s t k v.0 (along_with s k h l d) (subst (Along t) (sym one) a.1) (not_on s.p t.p k x i n) v.3
+    let one : k ≡ a.0 = one_way s t k a.0 (along_told s k h l d) a.1 v in
+    none_common s t k v.0 (along_told s k h l d) (subst (Along t) (sym one) a.1) (not_on s.p t.p k x i n) v.3
 
 pub one_dir : (s t : ExactSegment) (k j : ℕ) → IsSegment s → IsSegment t → k < 16 → j < 16 → DirOf s.p s.q k → DirOf t.p t.q j → Overlap s t → j ≡ k
-one_dir s t k j h g l m d e v = sym (one_way s t k j (along_with s k h l d) (along_with t j g m e) v)
+one_dir s t k j h g l m d e v = sym (one_way s t k j (along_told s k h l d) (along_told t j g m e) v)
 
 pub on_one_line : (s t : ExactSegment) (k j : ℕ) → IsSegment s → IsSegment t → k < 16 → DirOf s.p s.q k → DirOf t.p t.q j → j ≡ k → IsSide s.p k t.p sign.Zero → Before s.p t.q → Before t.p s.q → Overlap s t
 on_one_line s t k j h g l d e same on b c =
     let lo = later_of s.p t.p in
     let hi = earlier_of s.q t.q in
-    overlapped s t k lo.0 hi.0 (along_with s k h l d) (along_with t k g l (subst (DirOf t.p t.q) same e)) ((turn_on k s.p t.p).0 on) lo.1 hi.1 (
+    overlapped s t k lo.0 hi.0 (along_told s k h l d) (along_told t k g l (subst (DirOf t.p t.q) same e)) ((turn_on k s.p t.p).0 on) lo.1 hi.1 (
     elim lo.1.one [
       | inl u ↦ elim hi.1.one [ inl w ↦ between lo.0 hi.0 s.p s.q u w h.0 | inr w ↦ between lo.0 hi.0 s.p t.q u w b ]
       | inr u ↦ elim hi.1.one [ inl w ↦ between lo.0 hi.0 t.p s.q u w c | inr w ↦ between lo.0 hi.0 t.p t.q u w g.0 ]
@@ -88,13 +86,6 @@ rest_apart s later i x h l e a n = λ j d m. elim (cases_lt j i) [
       | inr q ↦ (let same : j ≡ i = omega (arith, k, q) in subst (λ (y : ExactCrease). Before y.seg.p s.q) (ap (λ n. get_or later n d) same ∙ element later i x d l e) b)
     ]
 
--- ---- what is left of an ascending list behind one of its elements
-pub rest_ascends : (xs : List ExactCrease) (n : ℕ) → Ascends xs → Ascends (drop n xs)
-rest_ascends xs n h = λ i j d l m.
-    let j_in : n + j < length xs = omega (arith, m, length-drop n xs) in
-    subst (λ (x : ExactCrease). SegmentBefore x.seg (get_or (drop n xs) j d).seg) (sym (get_or-drop n xs i d))
-    (subst (λ (y : ExactCrease). SegmentBefore (get_or xs (n + i) d).seg y.seg) (sym (get_or-drop n xs j d)) (h (n + i) (n + j) d (omega (arith, l)) j_in))
-
 -- a relation of an element to those behind it
 behind_of : (R : ExactCrease → ExactCrease → Type 0) (xs : List ExactCrease) (i : ℕ) (x : ExactCrease) → i < length xs → x ≡ get_or xs i x → AllPairs R xs → All (R x) (drop (i + 1) xs)
 behind_of R xs i x l e h = λ m d k.
@@ -107,9 +98,6 @@ rest_after = behind_of (λ (f g : ExactCrease). SegmentBefore f.seg g.seg)
 -- ---- the pairs of a list by their first ones
 abbrev pub AreBeside : List ExactCrease → ℕ → Type 0
 AreBeside xs i = (k j : ℕ) (d : ExactCrease) → k < i → k < j → j < length xs → ¬ Overlap (get_or xs k d).seg (get_or xs j d).seg
-
-pub beside_none : (xs : List ExactCrease) → AreBeside xs 0
-beside_none xs k j d l m n = absurd (omega (arith, l))
 
 pub beside_next : (xs : List ExactCrease) (i : ℕ) (x : ExactCrease) → i < length xs → x ≡ get_or xs i x → AreBeside xs i → All (λ f. ¬ Overlap x.seg f.seg) (drop (i + 1) xs) → AreBeside xs (i + 1)
 beside_next xs i x l e b a k j d m n o = elim (cases_lt k i) [

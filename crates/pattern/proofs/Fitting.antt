@@ -19,14 +19,14 @@ use Rattle.creases.proofs.callers.Overlaps.{overlap_back, overlap_itself}
 abbrev HasKey : ExactSheet → ExactCrease → Type 0
 HasKey sheet f = IsKey sheet f.seg
 
-key_of : (pattern : ExactPattern) (f : ExactCrease) → IsPattern pattern → Contains pattern.creases f → IsKey pattern.sheet f.seg
+pub key_of : (pattern : ExactPattern) (f : ExactCrease) → IsPattern pattern → Contains pattern.creases f → IsKey pattern.sheet f.seg
 key_of pattern f p c = All-contains (HasKey pattern.sheet) pattern.creases f p.keys c
 
-ends_of : (sheet : ExactSheet) (f : ExactCrease) → IsKey sheet f.seg → HasCanonicalEnds f.seg
+pub ends_of : (sheet : ExactSheet) (f : ExactCrease) → IsKey sheet f.seg → HasCanonicalEnds f.seg
 ends_of sheet f k = (k.from, k.to)
 
 -- of creases that stand apart, one and a later one do not overlap
-apart_of : (xs : List ExactCrease) (f g : ExactCrease) → Ascends xs → AreApart xs → Contains xs f → Contains xs g → SegmentBefore f.seg g.seg → ¬ Overlap f.seg g.seg
+pub apart_of : (xs : List ExactCrease) (f g : ExactCrease) → Ascends xs → AreApart xs → Contains xs f → Contains xs g → SegmentBefore f.seg g.seg → ¬ Overlap f.seg g.seg
 apart_of xs f g h a c d b = elim (cases_order c.0 d.0) [
   | inl k ↦ absurd (segment_not_itself f.seg g.seg (ap (λ (x : ExactCrease). x.seg) (sym c.2 ∙ get_or_default xs c.0 f g c.1 ∙ (λ i. get_or xs (k i) g) ∙ d.2)) b)
   | inr k ↦ elim k [

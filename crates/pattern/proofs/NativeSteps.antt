@@ -17,7 +17,7 @@ use Rattle.creases.specs.Creases.{IsFree}
 use Rattle.pattern.specs.declared.native.PatternWhy.{PatternWhy}
 use Rattle.pattern.specs.declared.native.PatternWhy.TheVariants as why
 use Rattle.pattern.proofs.Splits.{one_split}
-use Rattle.pattern.proofs.LineText.{point_unmarked, spelled_point}
+use Rattle.pattern.proofs.callers.LineText.{point_unmarked, spelled_point}
 
 pub body_line : (c : Colour) (p q : ExactPoint) (after : List ℕ) → line_text c p q ++ after ≡ body_text c p q ++ 10 ∷ after
 body_line c p q after = ap (λ t. letter c ∷ 32 ∷ t)
@@ -30,7 +30,7 @@ letter_high colour.M e = omega (arith, e)
 letter_high colour.V e = omega (arith, e)
 letter_high colour.A e = omega (arith, e)
 
-unmarked_more : (x : ℕ) (xs : List ℕ) → x ≢ 10 → ¬ Contains xs 10 → ¬ Contains (x ∷ xs) 10
+pub unmarked_more : (x : ℕ) (xs : List ℕ) → x ≢ 10 → ¬ Contains xs 10 → ¬ Contains (x ∷ xs) 10
 unmarked_more x xs n h c = by c.0 c.1 c.2
   where
     by : (k : ℕ) → k < length (x ∷ xs) → get_or (x ∷ xs) k 10 ≡ 10 → ⊥

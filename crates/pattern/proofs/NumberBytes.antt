@@ -5,7 +5,7 @@ use Rattle.std.proofs.lemmas.List.Elements.{Contains-append_cases}
 use Rattle.exact.specs.Number.{ExactNumber}
 use Rattle.qroot2.specs.Text.{numeral, signed_text, summand_text, both_text, numerator_text, denominator_text, number_text}
 use Rattle.qroot2.specs.Digits.{AllDigits}
-use Rattle.qroot2.proofs.Numerals.{numeral_is}
+use Rattle.qroot2.proofs.callers.Numerals.{numeral_is}
 
 -- a line feed, a space or a comma
 abbrev pub IsMark : ℕ → Type 0

@@ -15,11 +15,6 @@ pairs_next R xs i x l e h a = subst (AllPairs R) (ap (λ y. take i xs ++ y ∷ [
 pub pairs_tested : {X : Type 0} (R : X → X → Type 0) (xs : List X) (i : ℕ) → length xs ≤ i → AllPairs R (take i xs) → AllPairs R xs
 pairs_tested R xs i l h = subst (AllPairs R) (take_all i xs l) h
 
-pub pairs_fail : {X : Type 0} (R : X → X → Type 0) (xs : List X) (i : ℕ) (x : X) → i < length xs → x ≡ get_or xs i x → (¬ All (λ y. R y x) (take i xs)) → ¬ AllPairs R xs
-pairs_fail R xs i x l e n h = n (λ k d m.
-    let below : k < i = omega (arith, m, length-take i xs) in
-    subst (λ y. R y x) (sym (get_or-take i xs k d below)) (subst (R (get_or xs k d)) (get_or_default xs i d x l ∙ sym e) (h k i d below l)))
-
 at_last : (xs : List ExactCrease) (i k : ℕ) (last d : ExactCrease) → i < length xs → 1 ≤ i → k ≡ i - 1 → last ≡ get_or xs (i - 1) last → get_or (take i xs) k d ≡ last
 at_last xs i k last d l o e p =
     get_or-take i xs k d (omega (arith, e, o)) ∙ ap (λ j. get_or xs j d) e ∙ get_or_default xs (i - 1) d last (omega (arith, l)) ∙ sym p

@@ -21,7 +21,7 @@ ends_in_order s p q h (inr e) b = absurd (before_not_back p q b (subst (λ (x : 
 abbrev Placed : Type 0
 Placed = ExactSegment × ExactLine
 
-pub no_segment : (r : Result Placed SegBad) (p q : ExactPoint) → Before p q → (r ≡ Err bad.SamePoint → p ≡ q) → (r ≡ Err bad.NotDirection → (s : ExactSegment) → HasEnds s p q → ¬ IsSegment s) → result_ok r ≡ None → ¬ IsSegment (record { p = p; q = q })
+pub no_segment : {X : Type 0} (r : Result X SegBad) (p q : ExactPoint) → Before p q → (r ≡ Err bad.SamePoint → p ≡ q) → (r ≡ Err bad.NotDirection → (s : ExactSegment) → HasEnds s p q → ¬ IsSegment s) → result_ok r ≡ None → ¬ IsSegment (record { p = p; q = q })
 no_segment (Ok s) p q b f g e h = cc
 no_segment (Err bad.SamePoint) p q b f g e h = before_not_itself q (subst (λ (x : ExactPoint). Before x q) (f refl) b)
 no_segment (Err bad.NotDirection) p q b f g e h = g refl (record { p = p; q = q }) (inl (refl, refl)) h
@@ -37,6 +37,6 @@ some_told (Err e) p q h k = (tt, tt)
 pub segment_told : (o : Option Placed) (r : Result Placed SegBad) (p q : ExactPoint) → o ≡ result_ok r → IfOk r (λ s. IsSegment s.0 × HasEnds s.0 p q) → IfOk r (λ s. IsSupportOf s.0 s.1) → IsTold o p q
 segment_told o r p q e h k = subst (λ (x : Option Placed). IsTold x p q) (sym e) (some_told r p q h k)
 
-pub is_none : (o : Option Placed) → IsNone o → o ≡ None
+pub is_none : {X : Type 0} (o : Option X) → IsNone o → o ≡ None
 is_none None h = refl
 is_none (Some s) h = cc

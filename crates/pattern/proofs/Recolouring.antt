@@ -12,7 +12,7 @@ use Rattle.pattern.specs.declared.delta.Delta.{Delta}
 use Rattle.pattern.specs.Fitting.{AreExchanged, AreOnSame}
 use Rattle.pattern.specs.NativeReader.{on}
 use Rattle.pattern.proofs.Stepping.{none_yet, not_earlier}
-use Rattle.pattern.proofs.Told.{more_taken}
+use Rattle.pattern.proofs.callers.Told.{more_taken}
 
 module _ (gone come : List ExactCrease) (s : AreOnSame gone come) where
   pub as_many : length gone ≡ length come

@@ -12,9 +12,6 @@ use Rattle.creases.proofs.callers.Members.{before_at, segment_not_itself, segmen
 abbrev pub IsWithinPlaces : List ExactCrease → ExactCrease → ℕ → ℕ → Type 0
 IsWithinPlaces xs f low high = (c : Contains xs f) → (low ≤ c.0) × (c.0 < high)
 
-pub within_all : (xs : List ExactCrease) (f : ExactCrease) → IsWithinPlaces xs f 0 (length xs)
-within_all xs f c = (omega arith, c.1)
-
 abbrev place : (xs : List ExactCrease) (i : ℕ) (x : ExactCrease) → i < length xs → x ≡ get_or xs i x → Contains xs x
 place xs i x l e = (i, l, sym e)
 

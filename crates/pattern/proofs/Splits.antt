@@ -7,6 +7,7 @@ use Rattle.std.proofs.lemmas.List.Quantifiers.{position-Some}
 use Rattle.std.proofs.lemmas.List.Sums.{fails_before_first}
 use Rattle.std.proofs.lemmas.Bool.{eqb-true, eqb-false, ltb-false}
 use Rattle.pattern.specs.Splitting.{SplitsAt}
+use Rattle.chains.proofs.callers.Elements.{no_place}
 
 -- at the first place of a byte
 pub split_at : (bytes : List ℕ) (at i : ℕ) → position (λ b. b == at) bytes ≡ Some i → SplitsAt bytes at (take i bytes) (drop (i + 1) bytes)
@@ -21,13 +22,9 @@ split_at bytes at i e =
           eqb-false (get_or bytes c.0 0) at (found.2 c.0 short) (get_or_default bytes c.0 0 at (omega (arith, found.0, short)) ∙ there);
     }
 
-none_at : (b : Bool) (n : ℕ) → cond b (Some n) None ≡ None → b ≡ false
-none_at true n h = cc
-none_at false n h = refl
-
 pub never : (bytes : List ℕ) (at : ℕ) → position (λ b. b == at) bytes ≡ None → ¬ Contains bytes at
 never bytes at e c =
-    let end : ltb (position_or_len (λ b. b == at) bytes) (length bytes) ≡ false = none_at (ltb (position_or_len (λ b. b == at) bytes) (length bytes)) (position_or_len (λ b. b == at) bytes) e in
+    let end : ltb (position_or_len (λ b. b == at) bytes) (length bytes) ≡ false = no_place (ltb (position_or_len (λ b. b == at) bytes) (length bytes)) (position_or_len (λ b. b == at) bytes) e in
     let short : c.0 < position_or_len (λ b. b == at) bytes = omega (arith, c.1, ltb-false, end) in
     eqb-false (get_or bytes c.0 at) at (fails_before_first (λ b. b == at) bytes c.0 at short) c.2
 

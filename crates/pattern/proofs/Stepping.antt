@@ -15,7 +15,7 @@ use Rattle.pattern.specs.Deltas.{Stays, Leads, Fits}
 use Rattle.pattern.specs.declared.delta.Delta.{Delta}
 use Rattle.pattern.specs.Fitting.{CanCome}
 use Rattle.pattern.specs.NativeReader.{on}
-use Rattle.pattern.proofs.Told.{more_taken}
+use Rattle.pattern.proofs.callers.Told.{more_taken}
 use Rattle.pattern.proofs.Fitting.{to_tests}
 
 -- what is left of the old ones when some are gone, and what stands when others came
@@ -27,9 +27,6 @@ AreMore old come now = (f : ExactCrease) → Contains now f ↔ (Contains come f
 
 pub none_yet : (xs : List ExactCrease) (f : ExactCrease) → ¬ Contains (take 0 xs) f
 none_yet xs f c = omega (arith, c.1, length-take 0 xs)
-
-pub left_none : (old gone : List ExactCrease) → AreLeft old (take 0 gone) old
-left_none old gone f = (λ c. (c, none_yet gone f), λ k. k.0)
 
 pub more_none : (old come : List ExactCrease) → AreMore old (take 0 come) old
 more_none old come f = (λ c. inr c, λ k. elim k [ inl d ↦ absurd (none_yet come f d) | inr c ↦ c ])

@@ -8,14 +8,16 @@ use Rattle.pattern.specs.declared.delta.Delta.{Delta}
 abbrev pub Stays : List ExactCrease → Delta → ExactCrease → Type 0
 Stays old delta f = Contains old f × (¬ Contains delta.removed f)
 
--- The new pattern is on the same sheet, and has just the creases of the old one that are not removed, and the added ones.
+-- The new pattern is on the same sheet, and has just the creases of the old one that are not
+-- removed, and the added ones.
 pub record Leads (old : ExactPattern) (delta : Delta) (new : ExactPattern) : Type 0 where
   pub pattern : IsPattern new
   pub sheet : new.sheet ≡ old.sheet
-  pub creases : (f : ExactCrease) → Contains new.creases f ↔ (Stays old.creases delta f ⊎ Contains delta.added f)
+  pub creases : (f : ExactCrease)
+      → Contains new.creases f ↔ (Stays old.creases delta f ⊎ Contains delta.added f)
 
--- Both lists ascend, the removed creases are there with their colours, no added crease is on a segment that stays, and
--- the delta leads to a pattern.
+-- Both lists ascend, the removed creases are there with their colours, no added crease is on a
+-- segment that stays, and the delta leads to a pattern.
 pub record Fits (old : ExactPattern) (delta : Delta) : Type 0 where
   pub removed_ascend : Ascends delta.removed
   pub added_ascend : Ascends delta.added

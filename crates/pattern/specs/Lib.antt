@@ -7,3 +7,7 @@ pub mod NativeReader
 pub mod Splitting
 pub mod Deltas
 pub mod Fitting
+pub mod SingleText
+pub mod DeltaText
+pub mod DeltaReader
+pub mod Collecting

@@ -1,9 +1,9 @@
 -- What the reading of an end and of a line of native text answers.
-use Rattle.std.specs.Prelude.{◌≡◌, ◌≢◌, ℕ, List, ◌∷◌, ◌++◌, Result, Ok, Err}
+use Rattle.std.specs.Prelude.{◌≡◌, ◌≢◌, ℕ, List, Result, Ok, Err}
 use Rattle.exact.specs.Plane.{ExactPoint, IsPointCanonical}
 use Rattle.sheet.specs.declared.colour.Colour.{Colour}
 use Rattle.plane.specs.PointText.{point_text}
-use Rattle.pattern.specs.NativeText.{letter}
+use Rattle.pattern.specs.NativeText.{crease_text}
 use Rattle.pattern.specs.NativeReading.{IsPointSpelled, AreHeld}
 use Rattle.qroot2.specs.declared.text.NumText.{NumText}
 use Rattle.qroot2.specs.declared.text.NumText.TheVariants.{Syntax, Range}
@@ -20,14 +20,17 @@ both_of (Err Range) (Err e) = Err e
 abbrev pub ReadsEnd : List ℕ → Result ExactPoint NumText → Type 0
 ReadsEnd bytes (Ok p) = (bytes ≡ point_text p) × IsPointCanonical p
 ReadsEnd bytes (Err Syntax) = (p : ExactPoint) → IsPointSpelled p → bytes ≢ point_text p
-ReadsEnd bytes (Err Range) = (p : ExactPoint) × IsPointSpelled p × (bytes ≡ point_text p) × (¬ IsPointCanonical p)
+ReadsEnd bytes (Err Range) = (p : ExactPoint) × IsPointSpelled p × (bytes ≡ point_text p)
+    × (¬ IsPointCanonical p)
 
 -- a line without its line feed
 abbrev pub body_text : Colour → ExactPoint → ExactPoint → List ℕ
-body_text c p q = letter c ∷ 32 ∷ (point_text p ++ 32 ∷ point_text q)
+body_text c p q = crease_text (record { seg = record { p = p; q = q }; colour = c })
 
 abbrev pub IsNoBody : List ℕ → Type 0
-IsNoBody bytes = (c : Colour) (p q : ExactPoint) → IsPointSpelled p → IsPointSpelled q → bytes ≢ body_text c p q
+IsNoBody bytes = (c : Colour) (p q : ExactPoint) → IsPointSpelled p → IsPointSpelled q
+    → bytes ≢ body_text c p q
 
 abbrev pub IsWideBody : List ℕ → Type 0
-IsWideBody bytes = (c : Colour) × (p q : ExactPoint) × IsPointSpelled p × IsPointSpelled q × (bytes ≡ body_text c p q) × (¬ AreHeld p q)
+IsWideBody bytes = (c : Colour) × (p q : ExactPoint) × IsPointSpelled p × IsPointSpelled q
+    × (bytes ≡ body_text c p q) × (¬ AreHeld p q)

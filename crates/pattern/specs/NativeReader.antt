@@ -1,5 +1,6 @@
 -- What the reader of native text keeps while it goes from line to line.
-use Rattle.std.specs.Prelude.{◌≡◌, ℕ, ◌+◌, ◌<◌, ◌≤◌, List, [], ◌∷◌, ◌++◌, length, drop, Option, Some, None, Result, Ok, Err}
+use Rattle.std.specs.Prelude.{◌≡◌, ℕ, ◌+◌, ◌<◌, ◌≤◌, List, [], ◌∷◌, ◌++◌, length, drop, Option, Some, None}
+use Rattle.std.specs.Prelude.{Result, Ok, Err}
 use Rattle.exact.specs.Plane.{ExactSegment}
 use Rattle.plane.specs.Support.{ExactLine, IsSupportOf}
 use Rattle.ports.specs.declared.stop.Stop.{Stop}
@@ -43,9 +44,11 @@ pub record IsReading (good : ExactPattern) (end : Option ExactSegment) : Type 0 
   pub last : IsLast end good.creases
 
 -- a crease that passes the last two tests too is the last one now
-abbrev pub KeepsCrease : ExactPattern → ExactCrease → ExactPattern → Option ExactSegment → Result (Unit {0}) (Stop PatternWhy) → Type 0
+abbrev pub KeepsCrease : ExactPattern → ExactCrease → ExactPattern → Option ExactSegment
+    → Result (Unit {0}) (Stop PatternWhy) → Type 0
 KeepsCrease good f now last (Ok x) = (now ≡ with_last good f) × IsReading now last
-KeepsCrease good f now last (Err (stop.Why w)) = PassesBefore w good f.seg × (¬ Passes w good f.seg) × (w ≡ why.Line → ⊥) × (now ≡ good)
+KeepsCrease good f now last (Err (stop.Why w)) = PassesBefore w good f.seg × (¬ Passes w good f.seg)
+    × (w ≡ why.Line → ⊥) × (now ≡ good)
 KeepsCrease good f now last (Err stop.NoMemory) = Unit {0}
 
 -- a line that was read: the bytes begin with it, and its crease is the last one now
@@ -57,7 +60,8 @@ pub record IsTaken (good : ExactPattern) (bytes : List ℕ) (now : ExactPattern)
   pub some : 0 < length_of
   pub more : now ≡ with_last good crease
 
-abbrev pub TakesLine : ExactPattern → List ℕ → ExactPattern → Option ExactSegment → Result ℕ (Stop PatternWhy) → Type 0
+abbrev pub TakesLine : ExactPattern → List ℕ → ExactPattern → Option ExactSegment
+    → Result ℕ (Stop PatternWhy) → Type 0
 TakesLine good bytes now last (Ok n) = IsTaken good bytes now n × IsReading now last
 TakesLine good bytes now last (Err (stop.Why w)) = Fails w good bytes × (now ≡ good)
 TakesLine good bytes now last (Err stop.NoMemory) = Unit {0}

@@ -1,9 +1,11 @@
 -- Which bytes are the native text of a pattern, and which line of the others is bad, and why.
-use Rattle.std.specs.Prelude.{◌≡◌, ◌≢◌, ℕ, ◌+◌, ◌<◌, ◌≤◌, ◌⊎◌, List, [], ◌∷◌, ◌++◌, length, All, Result, Ok, Err}
+use Rattle.std.specs.Prelude.{◌≡◌, ◌≢◌, ℕ, ◌+◌, ◌<◌, ◌≤◌, ◌⊎◌, List, [], ◌∷◌, ◌++◌, length, All, Result, Ok}
+use Rattle.std.specs.Prelude.{Err}
 use Rattle.ports.specs.declared.stop.Stop.{Stop}
 use Rattle.ports.specs.declared.stop.Stop.TheVariants as stop
 use Rattle.exact.specs.Number.{ExactNumber, IsLowest}
-use Rattle.exact.specs.Plane.{ExactPoint, ExactSegment, IsSegment, Before, SegmentBefore, Overlap, IsPointCanonical}
+use Rattle.exact.specs.Plane.{ExactPoint, ExactSegment, IsSegment, Before, SegmentBefore, Overlap}
+use Rattle.exact.specs.Plane.{IsPointCanonical}
 use Rattle.qroot2.specs.Text.{IsWithinLimits}
 use Rattle.sheet.specs.Sheet.{ExactSheet, IsSheet, InSheet, OnBorder}
 use Rattle.sheet.specs.Pattern.{ExactCrease, ExactPattern, IsPattern, crease_limit}
@@ -33,7 +35,8 @@ AreHeld p q = IsPointCanonical p × IsPointCanonical q
 
 -- the segment comes after the one of the line before, if there is one
 abbrev pub IsAfterLast : List ExactCrease → ExactSegment → Type 0
-IsAfterLast good s = (front : List ExactCrease) (last : ExactCrease) → good ≡ front ++ last ∷ [] → SegmentBefore last.seg s
+IsAfterLast good s = (front : List ExactCrease) (last : ExactCrease) → good ≡ front ++ last ∷ []
+    → SegmentBefore last.seg s
 
 -- the segment passes the test of this number, after these creases
 abbrev pub Passes : PatternWhy → ExactPattern → ExactSegment → Type 0
@@ -52,15 +55,21 @@ PassesBefore why.Line good s = Unit {0}
 PassesBefore why.Range good s = Unit {0}
 PassesBefore why.Outside good s = Passes why.Range good s
 PassesBefore why.Order good s = Passes why.Range good s × Passes why.Outside good s
-PassesBefore why.NotDirection good s = Passes why.Range good s × Passes why.Outside good s × Passes why.Order good s
-PassesBefore why.OnBorder good s = Passes why.Range good s × Passes why.Outside good s × Passes why.Order good s × Passes why.NotDirection good s
-PassesBefore why.Overlap good s = Passes why.Range good s × Passes why.Outside good s × Passes why.Order good s × Passes why.NotDirection good s × Passes why.OnBorder good s
-PassesBefore why.TooMany good s = Passes why.Range good s × Passes why.Outside good s × Passes why.Order good s × Passes why.NotDirection good s × Passes why.OnBorder good s × Passes why.Overlap good s
+PassesBefore why.NotDirection good s = Passes why.Range good s × Passes why.Outside good s
+    × Passes why.Order good s
+PassesBefore why.OnBorder good s = Passes why.Range good s × Passes why.Outside good s
+    × Passes why.Order good s × Passes why.NotDirection good s
+PassesBefore why.Overlap good s = Passes why.Range good s × Passes why.Outside good s
+    × Passes why.Order good s × Passes why.NotDirection good s × Passes why.OnBorder good s
+PassesBefore why.TooMany good s = Passes why.Range good s × Passes why.Outside good s
+    × Passes why.Order good s × Passes why.NotDirection good s × Passes why.OnBorder good s
+    × Passes why.Overlap good s
 
 -- the least test that the first line of the bytes fails, after lines that are this pattern
 abbrev pub Fails : PatternWhy → ExactPattern → List ℕ → Type 0
 Fails why.Line good bytes = (c : Colour) (p q : ExactPoint) (after : List ℕ) → ¬ BeginsWith bytes c p q after
-Fails w good bytes = (c : Colour) × (p q : ExactPoint) × (after : List ℕ) × BeginsWith bytes c p q after × PassesBefore w good (record { p = p; q = q }) × (¬ Passes w good (record { p = p; q = q }))
+Fails w good bytes = (c : Colour) × (p q : ExactPoint) × (after : List ℕ) × BeginsWith bytes c p q after
+    × PassesBefore w good (record { p = p; q = q }) × (¬ Passes w good (record { p = p; q = q }))
 
 -- The lines before the bad one are those of a pattern; its sheet is line 1, and its first crease line 2.
 pub record IsBadAfter (bytes : List ℕ) (good : ExactPattern) (rest : List ℕ) (bad : PatternBad) : Type 0 where

@@ -1,6 +1,6 @@
 -- The native text of a pattern: a line for the sheet, and a line for each crease.
 use Rattle.std.specs.Prelude.{ℕ, zero, suc, ◌+◌, List, [], ◌∷◌, ◌++◌, codes}
-use Rattle.exact.specs.Plane.{ExactPoint}
+use Rattle.exact.specs.Plane.{ExactPoint, ExactSegment}
 use Rattle.sheet.specs.Sheet.{ExactSheet}
 use Rattle.sheet.specs.Pattern.{ExactCrease, ExactPattern}
 use Rattle.sheet.specs.declared.colour.Colour.{Colour}
@@ -12,6 +12,14 @@ abbrev pub letter : Colour → ℕ
 letter colour.M = 77
 letter colour.V = 86
 letter colour.A = 65
+
+-- a segment: the lesser end, a space, the greater end
+abbrev pub seg_text : ExactSegment → List ℕ
+seg_text s = point_text s.p ++ 32 ∷ point_text s.q
+
+-- a crease: the letter, a space, its segment
+abbrev pub crease_text : ExactCrease → List ℕ
+crease_text f = letter f.colour ∷ 32 ∷ seg_text f.seg
 
 -- a line: the letter, a space, the lesser end, a space, the greater end and a line feed
 abbrev pub line_text : Colour → ExactPoint → ExactPoint → List ℕ
@@ -28,7 +36,8 @@ square_line = codes "q2 1\n"
 abbrev pub other_start : List ℕ
 other_start = codes "q2 2 "
 
--- `q2 1` for the sheet of width 1 and height 1, and for every other sheet `q2 2` with the width and the height, a digit each
+-- `q2 1` for the sheet of width 1 and height 1, and for every other sheet `q2 2` with the width and
+-- the height, a digit each
 abbrev pub header_of : ℕ → ℕ → List ℕ
 header_of (suc zero) (suc zero) = square_line
 header_of w h = other_start ++ (48 + w) ∷ 32 ∷ (48 + h) ∷ 10 ∷ []

@@ -1,13 +1,18 @@
-//! The native text of a pattern: a line for the sheet, and then a line for each crease. The first line is `q2 1` for the
-//! sheet of width 1 and height 1, and `q2 2 W H` with the width and the height for every other sheet.
+//! The native text of a pattern: a line for the sheet, and then a line for each crease. The first
+//! line is `q2 1` for the sheet of width 1 and height 1, and `q2 2 W H` with the width and the
+//! height for every other sheet.
+mod delta;
 mod header;
 mod line;
 mod place;
 mod read;
+mod single;
 mod split;
 mod write;
 
+pub use delta::{delta_bytes, read_delta};
 pub use read::read_pattern;
+pub use single::{put_crease, put_seg, read_crease, read_seg};
 pub use write::pattern_bytes;
 
 /// Why a line of native text is refused. A line is tested in the order of these numbers.

@@ -15,8 +15,10 @@ impl Pattern {
         requires gone { Ascends gone.now }
         requires come { Ascends come.now }
         requires same { AreOnSame gone.now come.now }
-        ensures some { IfSome result (let delta : AnyDelta = record { removed = gone.now; added = come.now } in Leads self delta) }
-        ensures exactly { IsSome result ↔ (let delta : AnyDelta = record { removed = gone.now; added = come.now } in Fits self delta) }
+        ensures some { IfSome result
+            (let delta : AnyDelta = record { removed = gone.now; added = come.now } in Leads self delta) }
+        ensures exactly { IsSome result
+            ↔ (let delta : AnyDelta = record { removed = gone.now; added = come.now } in Fits self delta) }
     {
         let sheet = self.sheet();
         let mut creases = self.creases;

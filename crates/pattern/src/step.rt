@@ -42,8 +42,12 @@ impl Pattern {
     /// The pattern without some of its creases and with others, or None exactly where that is no
     /// delta that fits.
     fn changed(self, gone: &[Crease], come: &[Crease]) -> Result<Option<Pattern>, NoMemory>
-        ensures some { IfOk result (λ found. IfSome found (let delta : AnyDelta = record { removed = gone.now; added = come.now } in Leads self delta)) }
-        ensures exactly { IfOk result (λ found. IsSome found ↔ (let delta : AnyDelta = record { removed = gone.now; added = come.now } in Fits self delta)) }
+        ensures some { IfOk result
+            (λ found. IfSome found
+            (let delta : AnyDelta = record { removed = gone.now; added = come.now } in Leads self delta)) }
+        ensures exactly { IfOk result
+            (λ found. IsSome found
+            ↔ (let delta : AnyDelta = record { removed = gone.now; added = come.now } in Fits self delta)) }
     {
         if !ascend(gone) {
             return Ok(None);
@@ -61,8 +65,12 @@ impl Pattern {
     fn exchanged(self, gone: &[Crease], come: &[Crease]) -> Result<Option<Pattern>, NoMemory>
         requires gone { Ascends gone.now }
         requires come { Ascends come.now }
-        ensures some { IfOk result (λ found. IfSome found (let delta : AnyDelta = record { removed = gone.now; added = come.now } in Leads self delta)) }
-        ensures exactly { IfOk result (λ found. IsSome found ↔ (let delta : AnyDelta = record { removed = gone.now; added = come.now } in Fits self delta)) }
+        ensures some { IfOk result
+            (λ found. IfSome found
+            (let delta : AnyDelta = record { removed = gone.now; added = come.now } in Leads self delta)) }
+        ensures exactly { IfOk result
+            (λ found. IsSome found
+            ↔ (let delta : AnyDelta = record { removed = gone.now; added = come.now } in Fits self delta)) }
     {
         let sheet = self.sheet();
         let mut creases = self.creases;
@@ -83,7 +91,8 @@ impl Pattern {
 fn take_all(creases: &mut CreaseMap, gone: &[Crease]) -> bool
     requires { Ascends gone.now }
     ensures all { IsTrue result ↔ All (λ f. Contains creases.old f) gone.now }
-    ensures left { IsTrue result → (f : ExactCrease) → Contains creases.new f ↔ (Contains creases.old f × (¬ Contains gone.now f)) }
+    ensures left { IsTrue result → (f : ExactCrease)
+        → Contains creases.new f ↔ (Contains creases.old f × (¬ Contains gone.now f)) }
 {
     for crease in gone {
         if !creases.take(crease) {
@@ -95,9 +104,15 @@ fn take_all(creases: &mut CreaseMap, gone: &[Crease]) -> bool
 
 /// Puts these creases in, as far as the first that cannot stand on the sheet or overlaps one that
 /// is there, and says whether all came.
-fn put_all(creases: &mut CreaseMap, sheet: &Sheet, come: &[Crease]) -> Result<bool, NoMemory>
+pub(crate) fn put_all(
+    creases: &mut CreaseMap,
+    sheet: &Sheet,
+    come: &[Crease],
+) -> Result<bool, NoMemory>
     ensures all { IfOk result (λ all. IsTrue all ↔ CanCome sheet.now creases.old come.now) }
-    ensures more { IfOk result (λ all. IsTrue all → (f : ExactCrease) → Contains creases.new f ↔ (Contains come.now f ⊎ Contains creases.old f)) }
+    ensures more { IfOk result
+        (λ all. IsTrue all → (f : ExactCrease)
+        → Contains creases.new f ↔ (Contains come.now f ⊎ Contains creases.old f)) }
 {
     for crease in come {
         if !is_key(sheet, &crease.seg) {

@@ -1,5 +1,6 @@
 //! The first line of native text, which says on which sheet the pattern is.
-ghost use Rattle.std.specs.Prelude.{◌≡◌, ◌≢◌, ◌++◌, ◌∷◌, [], ℕ, List, IfSome, IsNone, IsTrue, IsFalse, OnOk, length, drop};
+ghost use Rattle.std.specs.Prelude.{◌≡◌, ◌≢◌, ◌++◌, ◌∷◌, ℕ, List, IfSome, IsNone, IsTrue, IsFalse, OnOk};
+ghost use Rattle.std.specs.Prelude.{drop};
 ghost use Rattle.sheet.specs.Sheet.{ExactSheet};
 ghost use Rattle.pattern.specs.NativeText.{header, square_line, other_start};
 ghost use Rattle.pattern.specs.NativeReading.{HasNoHeader};

@@ -1,6 +1,5 @@
 //! One line of native text.
 ghost use Rattle.std.specs.Prelude.{◌≡◌, ◌≢◌, ◌⊎◌, ◌∷◌, IfOk, IfErr, IfSome, IsNone, Err, List, ℕ};
-ghost use Rattle.exact.specs.Plane.{ExactPoint};
 ghost use Rattle.sheet.specs.declared.colour.Colour.{Colour as AColour};
 ghost use Rattle.pattern.specs.NativeText.{letter};
 ghost use Rattle.pattern.specs.NativeReading.{AreHeld};
@@ -48,7 +47,7 @@ pub(super) fn read_line(line: &[u8]) -> Result<Line, PatternWhy>
 }
 
 /// The first byte of a line whose second is a space, and what stands behind that space.
-fn letter_and_ends(line: &[u8]) -> Option<(u8, &[u8])>
+pub(super) fn letter_and_ends(line: &[u8]) -> Option<(u8, &[u8])>
     ensures some { IfSome result (λ parts. line.now ≡ parts.0 ∷ 32 ∷ parts.1.now) }
     ensures none { IsNone result → (first : ℕ) (ends : List ℕ) → line.now ≢ first ∷ 32 ∷ ends }
 {
@@ -76,7 +75,7 @@ fn both<T: Copy>(first: Result<T, NumText>, second: Result<T, NumText>) -> Resul
 }
 
 /// The end that a text spells. No text goes before out of range, whichever number it is.
-fn read_end(text: &[u8]) -> Result<Point, NumText>
+pub(super) fn read_end(text: &[u8]) -> Result<Point, NumText>
     ensures { ReadsEnd text.now result }
 {
     let Some((x, y)) = split(text, b',') else {
@@ -89,7 +88,7 @@ fn read_end(text: &[u8]) -> Result<Point, NumText>
 }
 
 /// The colour of a letter.
-fn colour_of(byte: u8) -> Option<Colour>
+pub(super) fn colour_of(byte: u8) -> Option<Colour>
     ensures some { IfSome result (λ c. letter c ≡ byte) }
     ensures none { IsNone result → (c : AColour) → letter c ≢ byte }
 {

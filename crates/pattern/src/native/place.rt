@@ -20,7 +20,8 @@ pub(super) fn placed(
     line: &Line,
     last: &Option<Seg>,
 ) -> Result<(Seg, SupportLine), PatternWhy>
-    ensures { (good : ExactPattern) → good.sheet ≡ sheet.now → IsLast last.now good.creases → AreHeld line.now.p line.now.q → PlacesLine good (ends_of line.now) result }
+    ensures { (good : ExactPattern) → good.sheet ≡ sheet.now → IsLast last.now good.creases
+        → AreHeld line.now.p line.now.q → PlacesLine good (ends_of line.now) result }
 {
     if !are_in_sheet(sheet, &line.p, &line.q) {
         return Err(PatternWhy::Outside);
@@ -39,7 +40,8 @@ pub(super) fn placed(
 
 /// Whether the first end is the lesser one, and both come after the last segment.
 fn is_in_order(line: &Line, last: &Option<Seg>) -> bool
-    ensures { (good : List ExactCrease) → IsLast last.now good → IsTrue result ↔ (Before line.now.p line.now.q × IsAfterLast good (ends_of line.now)) }
+    ensures { (good : List ExactCrease) → IsLast last.now good
+        → IsTrue result ↔ (Before line.now.p line.now.q × IsAfterLast good (ends_of line.now)) }
 {
     is_before(&line.p, &line.q) && is_after(&line.p, &line.q, last)
 }
@@ -55,8 +57,9 @@ fn segment_of(line: &Line) -> Option<(Seg, SupportLine)>
 }
 
 /// Whether two ends come after a segment, if there is one.
-fn is_after(p: &Point, q: &Point, last: &Option<Seg>) -> bool
-    ensures { (good : List ExactCrease) → IsLast last.now good → IsTrue result ↔ (let s : ExactSegment = record { p = p.now; q = q.now } in IsAfterLast good s) }
+pub(super) fn is_after(p: &Point, q: &Point, last: &Option<Seg>) -> bool
+    ensures { (good : List ExactCrease) → IsLast last.now good
+        → IsTrue result ↔ (let s : ExactSegment = record { p = p.now; q = q.now } in IsAfterLast good s) }
 {
     match last {
         None => true,
@@ -66,7 +69,8 @@ fn is_after(p: &Point, q: &Point, last: &Option<Seg>) -> bool
 
 /// Whether two ends come after those of a segment.
 fn is_after_seg(last: &Seg, p: &Point, q: &Point) -> bool
-    ensures { IsTrue result ↔ (let s : ExactSegment = record { p = p.now; q = q.now } in SegmentBefore last.now s) }
+    ensures { IsTrue result
+        ↔ (let s : ExactSegment = record { p = p.now; q = q.now } in SegmentBefore last.now s) }
 {
     let from = last.p();
     let to = last.q();

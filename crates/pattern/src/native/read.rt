@@ -73,7 +73,8 @@ impl Reader {
     /// Takes the first line of the bytes, and answers its length with its line feed.
     fn take_line(&mut self, bytes: &[u8]) -> Result<usize, Stop<PatternWhy>>
         requires { IsReading (on self.old.sheet self.old.creases) self.old.last }
-        ensures { TakesLine (on self.old.sheet self.old.creases) bytes.now (on self.new.sheet self.new.creases) self.new.last result }
+        ensures { TakesLine (on self.old.sheet self.old.creases) bytes.now
+            (on self.new.sheet self.new.creases) self.new.last result }
     {
         let Some((text, _)) = split(bytes, b'\n') else {
             return Err(Stop::Why(PatternWhy::Line));
@@ -102,7 +103,8 @@ impl Reader {
         requires support { IsSupportOf crease.seg support }
         requires reading { IsReading (on self.old.sheet self.old.creases) self.old.last }
         requires follows { CanFollow (on self.old.sheet self.old.creases) crease.seg }
-        ensures { KeepsCrease (on self.old.sheet self.old.creases) crease (on self.new.sheet self.new.creases) self.new.last result }
+        ensures { KeepsCrease (on self.old.sheet self.old.creases) crease
+            (on self.new.sheet self.new.creases) self.new.last result }
     {
         if self.creases.len() >= CREASE_LIMIT {
             if self.creases.is_free(&crease.seg) {

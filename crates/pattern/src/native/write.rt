@@ -26,8 +26,9 @@ pub fn pattern_bytes(alloc: Global, pattern: &Pattern) -> Result<Vec<u8>, NoMemo
 }
 
 /// Appends the line of a crease.
-fn put_line(text: &mut Vec<u8>, crease: &Crease) -> Result<(), AllocError>
-    ensures { OnOk result (text.new.items ≡ text.old.items ++ line_text crease.now.colour crease.now.seg.p crease.now.seg.q) }
+pub(super) fn put_line(text: &mut Vec<u8>, crease: &Crease) -> Result<(), AllocError>
+    ensures { OnOk result
+        (text.new.items ≡ text.old.items ++ line_text crease.now.colour crease.now.seg.p crease.now.seg.q) }
 {
     text.push(letter(crease.colour))?;
     text.push(b' ')?;
@@ -39,7 +40,7 @@ fn put_line(text: &mut Vec<u8>, crease: &Crease) -> Result<(), AllocError>
 }
 
 /// The letter of a colour.
-fn letter(colour: Colour) -> u8
+pub(super) fn letter(colour: Colour) -> u8
     ensures { result ≡ letter_of colour }
 {
     match colour {

@@ -5,7 +5,7 @@ use Rattle.sheet.specs.Pattern.{ExactCrease}
 use Rattle.std.proofs.lemmas.List.{take_rest}
 use Rattle.pattern.specs.Fitting.{AreApart}
 use Rattle.pattern.proofs.Beside.{rest_after, beside_next, beside_fails, beside_all}
-use Rattle.pattern.proofs.Told.{refuted, shown, answers_no, answers_yes}
+use Rattle.pattern.proofs.callers.Told.{refuted, shown, answers_no, answers_yes}
 use Rattle.pattern.proofs.apart.are_all_apart.Goals as goal
 
 seg_of : (f g : ExactCrease) → f ≡ g → f.seg ≡ g.seg

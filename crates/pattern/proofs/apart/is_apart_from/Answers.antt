@@ -3,7 +3,7 @@ use Rattle.std.specs.Prelude.{All}
 use Rattle.exact.specs.Plane.{ExactPoint, ExactSegment, Before, SegmentBefore, Overlap}
 use Rattle.sheet.specs.Pattern.{ExactCrease}
 use Rattle.pattern.proofs.Beside.{rest_apart, begins_before}
-use Rattle.pattern.proofs.Told.{all_next, all_tested, one_fails, refuted, shown, answers_no, answers_yes}
+use Rattle.pattern.proofs.callers.Told.{all_next, all_tested, one_fails, refuted, shown, answers_no, answers_yes}
 use Rattle.pattern.proofs.apart.is_apart_from.Goals as goal
 
 abbrev IsApart : ExactSegment → ExactCrease → Type 0

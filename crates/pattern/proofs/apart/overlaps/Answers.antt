@@ -7,7 +7,7 @@ use Rattle.qroot2.specs.declared.sign.Sign.{Sign}
 use Rattle.qroot2.specs.declared.sign.Sign.TheVariants as sign
 use Rattle.plane.specs.Sides.{IsSide}
 use Rattle.pattern.proofs.Beside.{off_line, one_dir, on_one_line}
-use Rattle.pattern.proofs.Told.{answers_no}
+use Rattle.pattern.proofs.callers.Told.{answers_no}
 use Rattle.pattern.proofs.apart.overlaps.Goals as goal
 
 same_told : (j k : ℕ) → IsTrue (nat_eq j k) ↔ (j ≡ k)

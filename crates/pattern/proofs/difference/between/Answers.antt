@@ -1,5 +1,5 @@
 use Rattle.pattern.specs.Deltas.{IsBetween}
-use Rattle.pattern.proofs.Leading.{between_fits, between_leads}
+use Rattle.pattern.proofs.callers.Leading.{between_fits, between_leads}
 use Rattle.pattern.proofs.difference.between.Goals as goal
 
 pub returns : goal.returns

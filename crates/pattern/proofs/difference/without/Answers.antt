@@ -1,8 +1,8 @@
 use Rattle.std.proofs.Common.{◌++◌, ◌∷◌, [], List, sym, subst}
 use Rattle.sheet.specs.Pattern.{ExactCrease}
 use Rattle.pattern.specs.Deltas.{IsWithout}
-use Rattle.pattern.proofs.Fronts.{taken_pattern, moved}
-use Rattle.pattern.proofs.Leading.{without_more, without_passed}
+use Rattle.pattern.proofs.callers.Fronts.{taken_pattern, moved}
+use Rattle.pattern.proofs.callers.Leading.{without_more, without_passed}
 use Rattle.pattern.proofs.difference.without.Goals as goal
 
 pub loop-crease-preserved-in-Continue-1 : goal.loop-crease-preserved-in-Continue-1

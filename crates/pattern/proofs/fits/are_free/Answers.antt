@@ -1,6 +1,6 @@
 use Rattle.std.specs.Prelude.{All}
 use Rattle.pattern.specs.Fitting.{IsFreeBut}
-use Rattle.pattern.proofs.Told.{all_next, all_tested, one_fails, refuted, answers_no, answers_yes}
+use Rattle.pattern.proofs.callers.Told.{all_next, all_tested, one_fails, refuted, answers_no, answers_yes}
 use Rattle.pattern.proofs.fits.are_free.Goals as goal
 
 pub loop-crease-preserved : goal.loop-crease-preserved

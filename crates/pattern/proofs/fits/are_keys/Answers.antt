@@ -2,7 +2,7 @@ use Rattle.std.proofs.Common.{subst, sym}
 use Rattle.std.specs.Prelude.{All}
 use Rattle.sheet.specs.Sheet.{ExactSheet}
 use Rattle.sheet.specs.Pattern.{ExactCrease, IsKey}
-use Rattle.pattern.proofs.Told.{all_next, all_tested, one_fails, refuted, answers_no, answers_yes}
+use Rattle.pattern.proofs.callers.Told.{all_next, all_tested, one_fails, refuted, answers_no, answers_yes}
 use Rattle.pattern.proofs.fits.are_keys.Goals as goal
 
 abbrev HasKey : ExactSheet → ExactCrease → Type 0

@@ -3,7 +3,7 @@ use Rattle.exact.specs.Plane.{SegmentBefore}
 use Rattle.sheet.specs.Pattern.{ExactCrease}
 use Rattle.creases.specs.Creases.{Ascends}
 use Rattle.pattern.proofs.Pairs.{ascends_short, ascend_next, ascend_fails, pairs_tested}
-use Rattle.pattern.proofs.Told.{answers_no, answers_yes, refuted}
+use Rattle.pattern.proofs.callers.Told.{answers_no, answers_yes, refuted}
 use Rattle.pattern.proofs.fits.ascend.Goals as goal
 
 -- by the views of both

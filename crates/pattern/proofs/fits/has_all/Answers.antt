@@ -1,6 +1,6 @@
 use Rattle.std.specs.Prelude.{All, Contains}
 use Rattle.sheet.specs.Pattern.{ExactCrease}
-use Rattle.pattern.proofs.Told.{all_next, all_tested, one_fails, refuted, answers_no, answers_yes}
+use Rattle.pattern.proofs.callers.Told.{all_next, all_tested, one_fails, refuted, answers_no, answers_yes}
 use Rattle.pattern.proofs.fits.has_all.Goals as goal
 
 pub loop-crease-preserved : goal.loop-crease-preserved

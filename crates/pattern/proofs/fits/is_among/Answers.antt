@@ -3,7 +3,7 @@ use Rattle.exact.specs.Plane.{SegmentBefore}
 use Rattle.std.specs.Prelude.{Contains}
 use Rattle.sheet.specs.Pattern.{ExactCrease}
 use Rattle.pattern.proofs.Searching.{places_behind, places_before, places_here, no_place}
-use Rattle.pattern.proofs.Told.{refuted, shown, answers_no}
+use Rattle.pattern.proofs.callers.Told.{refuted, shown, answers_no}
 use Rattle.pattern.proofs.fits.is_among.Goals as goal
 
 -- by the views of both

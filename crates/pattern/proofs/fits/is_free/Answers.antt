@@ -4,10 +4,11 @@ use Rattle.std.proofs.lemmas.List.Elements.{All-contains}
 use Rattle.exact.specs.Plane.{Overlap}
 use Rattle.sheet.specs.Pattern.{ExactCrease}
 use Rattle.creases.specs.Creases.{AreOverlapping}
-use Rattle.creases.proofs.callers.Members.{all_of, has_or_not, first_has, first_or_later, later_has}
+use Rattle.creases.proofs.callers.Members.{all_of, has_or_not}
 use Rattle.pattern.specs.Fitting.{IsFreeBut}
-use Rattle.pattern.proofs.Told.{refuted, shown, answers_no, answers_yes}
+use Rattle.pattern.proofs.callers.Told.{refuted, shown, answers_no, answers_yes}
 use Rattle.pattern.proofs.fits.is_free.Goals as goal
+use Rattle.chains.proofs.callers.Elements.{head_has, tail_has, has_cases}
 
 abbrev MayStand : List ExactCrease → ExactCrease → ExactCrease → Type 0
 MayStand removed f g = (¬ Overlap g.seg f.seg) ⊎ Contains removed g
@@ -15,7 +16,7 @@ MayStand removed f g = (¬ Overlap g.seg f.seg) ⊎ Contains removed g
 pub returns-then-not-is_among : goal.returns-then-not-is_among
 returns-then-not-is_among c =
     let f : ExactCrease = c.in-Some.other in
-    let here = c.loop-other.invariant.overlap f (subst (λ (xs : List ExactCrease). Contains xs f) (sym c.in-Some.ensures.steps) (first_has f f c.next.new.self refl)) in
+    let here = c.loop-other.invariant.overlap f (subst (λ (xs : List ExactCrease). Contains xs f) (sym c.in-Some.ensures.steps) (head_has f f c.next.new.self refl)) in
     answers_no (IsFreeBut c.args.pattern.now.creases c.args.removed.now c.args.crease.now)
     (λ h. elim (All-contains (MayStand c.args.removed.now c.args.crease.now) c.args.pattern.now.creases f h here.0) [
       | inl n ↦ n here.1
@@ -25,10 +26,10 @@ returns-then-not-is_among c =
 pub loop-other-preserved : goal.loop-other-preserved
 loop-other-preserved c =
     let f : ExactCrease = c.in-Some.other in record {
-      overlap = λ g k. c.loop-other.invariant.overlap g (subst (λ (xs : List ExactCrease). Contains xs g) (sym c.in-Some.ensures.steps) (later_has f g c.next.new.self k));
+      overlap = λ g k. c.loop-other.invariant.overlap g (subst (λ (xs : List ExactCrease). Contains xs g) (sym c.in-Some.ensures.steps) (tail_has f g c.next.new.self k));
       seen = λ g k v. elim (c.loop-other.invariant.seen g k v) [
         | inr r ↦ inr r
-        | inl m ↦ elim (first_or_later f g c.next.new.self (subst (λ (xs : List ExactCrease). Contains xs g) c.in-Some.ensures.steps m)) [
+        | inl m ↦ elim (has_cases f g c.next.new.self (subst (λ (xs : List ExactCrease). Contains xs g) c.in-Some.ensures.steps m)) [
           | inl e ↦ inr (subst (Contains c.args.removed.now) e (shown c.is_among.result c.if-not-is_among.false c.is_among.ensures))
           | inr n ↦ inl n
         ]

@@ -2,8 +2,9 @@ use Rattle.std.proofs.Common.{subst, sym}
 use Rattle.sheet.specs.Sheet.{InSheet, OnBorder}
 use Rattle.sheet.specs.Pattern.{IsKey}
 use Rattle.exact.specs.Plane.{IsPointCanonical}
-use Rattle.pattern.proofs.Told.{refuted, shown, answers_no, answers_other}
+use Rattle.pattern.proofs.callers.Told.{refuted, shown, answers_no}
 use Rattle.pattern.proofs.fits.is_key.Goals as goal
+use Rattle.creases.proofs.callers.Told.{answers_other}
 
 pub returns-then-not-are_in_sheet : goal.returns-then-not-are_in_sheet
 returns-then-not-are_in_sheet c = answers_no (IsKey c.args.sheet.now c.args.seg.now)

@@ -5,18 +5,14 @@ use Rattle.std.specs.Ordering.{is_eq}
 use denote.Enum.Bare.{sameb, same_true}
 use Rattle.exact.specs.Plane.{ExactSegment}
 use Rattle.plane.specs.Order.{segment_cmp}
-use Rattle.plane.proofs.Orders.{segment_exact}
+use Rattle.plane.proofs.callers.Orders.{segment_exact}
 use Rattle.sheet.specs.Pattern.{ExactCrease}
 use Rattle.sheet.specs.contracts.Colour.{the_type}
 use Rattle.std.specs.declared.cmp.Ordering.TheVariants as o
 use Rattle.creases.proofs.callers.Members.{crease_same, tied_segments, colour_itself}
-use Rattle.pattern.proofs.Told.{answers_not}
+use Rattle.pattern.proofs.callers.Told.{answers_not}
 use Rattle.pattern.proofs.fits.is_one.Goals as goal
-
-tied : (r : Ordering) → is_eq r ≡ true → r ≡ o.Equal
-tied o.Less h = cc
-tied o.Equal h = refl
-tied o.Greater h = cc
+use Rattle.creases.proofs.callers.Lookups.{tied}
 
 one_segment : (s t : ExactSegment) (r : Ordering) (b : Bool) → r ≡ segment_cmp s t → b ≡ is_eq r → b ≡ true → s ≡ t
 one_segment s t r b e f g = segment_exact s t (sym e ∙ tied r (sym f ∙ g))

@@ -1,4 +1,4 @@
-use Rattle.pattern.proofs.Leading.{leads_to_one}
+use Rattle.pattern.proofs.callers.Leading.{leads_to_one}
 use Rattle.pattern.proofs.laws.delta_leads_to_one.Goals as goal
 
 pub returns : goal.returns

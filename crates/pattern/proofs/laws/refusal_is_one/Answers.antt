@@ -1,4 +1,4 @@
-use Rattle.pattern.proofs.OneRefusal.{one_refusal}
+use Rattle.pattern.proofs.callers.OneRefusal.{one_refusal}
 use Rattle.pattern.proofs.laws.refusal_is_one.Goals as goal
 
 pub returns : goal.returns

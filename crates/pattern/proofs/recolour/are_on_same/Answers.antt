@@ -2,7 +2,7 @@ use Rattle.std.proofs.Common.{◌≡◌, ◌<◌, ◌≤◌, length, sym, subst,
 use Rattle.sheet.specs.Pattern.{ExactCrease}
 use Rattle.pattern.specs.Fitting.{AreOnSame}
 use Rattle.pattern.proofs.Recolouring.{on_same_none, on_same_next, on_same_fails, on_same_all}
-use Rattle.pattern.proofs.Told.{refuted, shown, answers_no, answers_yes}
+use Rattle.pattern.proofs.callers.Told.{refuted, shown, answers_no, answers_yes}
 use Rattle.pattern.proofs.recolour.are_on_same.Goals as goal
 
 -- by the views of both

@@ -5,7 +5,7 @@ use Rattle.sheet.specs.Pattern.{ExactCrease}
 use Rattle.creases.specs.Creases.{AreRecoloured}
 use Rattle.pattern.specs.Fitting.{AreExchanged}
 use Rattle.pattern.proofs.Recolouring.{as_many, was_there, not_all_there, exchanged_none, exchanged_next}
-use Rattle.pattern.proofs.Told.{all_next, all_tested, refuted, shown, answers_no, answers_yes}
+use Rattle.pattern.proofs.callers.Told.{all_next, all_tested, refuted, shown, answers_no, answers_yes}
 use Rattle.pattern.proofs.recolour.recolour_all.Goals as goal
 
 pub loop-i-init : goal.loop-i-init

@@ -4,7 +4,7 @@ use Rattle.sheet.specs.Pattern.{ExactCrease, IsKey}
 use Rattle.creases.specs.Creases.{IsFree, AreWith}
 use Rattle.pattern.specs.Fitting.{CanCome}
 use Rattle.pattern.proofs.Stepping.{AreMore, can_come_none, can_come_next, more_none, more_next, not_key, not_free}
-use Rattle.pattern.proofs.Told.{refuted, shown, answers_no}
+use Rattle.pattern.proofs.callers.Told.{refuted, shown, answers_no}
 use Rattle.pattern.proofs.step.put_all.Goals as goal
 
 pub loop-crease-init : goal.loop-crease-init

@@ -3,7 +3,7 @@ use Rattle.std.specs.Prelude.{All, Contains}
 use Rattle.std.proofs.lemmas.List.{take_all}
 use Rattle.sheet.specs.Pattern.{ExactCrease}
 use Rattle.pattern.proofs.Stepping.{AreLeft, left_next, not_all_left}
-use Rattle.pattern.proofs.Told.{all_next, all_tested, refuted, shown, answers_no, answers_yes}
+use Rattle.pattern.proofs.callers.Told.{all_next, all_tested, refuted, shown, answers_no, answers_yes}
 use Rattle.pattern.proofs.step.take_all.Goals as goal
 
 pub returns-then-not-take-clause-all : goal.returns-then-not-take-clause-all

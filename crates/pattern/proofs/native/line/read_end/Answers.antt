@@ -1,6 +1,6 @@
 use Rattle.std.proofs.Common.{subst, sym, refl, List, ℕ}
 use Rattle.std.specs.Prelude.{Contains}
-use Rattle.pattern.proofs.LineText.{comma_in, pair_answered, ReadsPair}
+use Rattle.pattern.proofs.callers.LineText.{comma_in, pair_answered, ReadsPair}
 use Rattle.pattern.proofs.native.line.read_end.Goals as goal
 
 pub returns-in_default : goal.returns-in_default

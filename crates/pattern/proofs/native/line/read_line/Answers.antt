@@ -1,6 +1,6 @@
 use Rattle.std.proofs.Common.{subst, refl, ap, ◌∙◌}
 use Rattle.std.specs.Prelude.{Err}
-use Rattle.pattern.proofs.LineText.{unspaced, ends_answered, ReadsEnds, no_body, a_body}
+use Rattle.pattern.proofs.callers.LineText.{unspaced, ends_answered, ReadsEnds, no_body, a_body}
 use Rattle.pattern.proofs.native.line.read_line.Goals as goal
 
 pub returns-in_default-split-clause-form : goal.returns-in_default-split-clause-form

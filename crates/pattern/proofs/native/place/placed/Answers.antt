@@ -2,7 +2,7 @@ use Rattle.std.proofs.Common.{◌≡◌, subst, refl, sym}
 use Rattle.exact.specs.Plane.{ExactSegment, IsSegment}
 use Rattle.sheet.specs.Sheet.{ExactSheet, InSheet, OnBorder}
 use Rattle.pattern.specs.NativeEnds.{ends_of}
-use Rattle.pattern.proofs.Told.{refuted, shown}
+use Rattle.pattern.proofs.callers.Told.{refuted, shown}
 use Rattle.pattern.proofs.native.place.placed.Goals as goal
 
 -- both ends are in the pattern's sheet

@@ -1,5 +1,5 @@
 use Rattle.pattern.specs.Deltas.{Fits}
-use Rattle.pattern.proofs.Told.{refuted, answers_no}
+use Rattle.pattern.proofs.callers.Told.{refuted, answers_no}
 use Rattle.pattern.proofs.pattern.Pattern.changed.Goals as goal
 
 pub returns-then-not-ascend-clause-exactly : goal.returns-then-not-ascend-clause-exactly

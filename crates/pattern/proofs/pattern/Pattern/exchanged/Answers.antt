@@ -6,7 +6,7 @@ use Rattle.pattern.specs.Deltas.{Fits, Leads}
 use Rattle.pattern.specs.Fitting.{CanCome}
 use Rattle.pattern.specs.NativeReader.{on}
 use Rattle.pattern.proofs.Stepping.{AreLeft, leads_made, fits_made, fits_comes, fits_few}
-use Rattle.pattern.proofs.Told.{refuted, shown, answers_no, answers_yes}
+use Rattle.pattern.proofs.callers.Told.{refuted, shown, answers_no, answers_yes}
 use Rattle.pattern.proofs.pattern.Pattern.exchanged.Goals as goal
 
 creases_are : (x y : ExactPattern) → x ≡ y → x.creases ≡ y.creases

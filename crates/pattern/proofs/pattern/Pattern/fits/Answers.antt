@@ -6,7 +6,7 @@ use Rattle.pattern.specs.Deltas.{Fits}
 use Rattle.pattern.specs.declared.delta.Delta.{Delta}
 use Rattle.pattern.specs.Fitting.{PassesTests}
 use Rattle.pattern.proofs.Fitting.{from_tests, to_tests}
-use Rattle.pattern.proofs.Told.{answers_no, refuted}
+use Rattle.pattern.proofs.callers.Told.{answers_no, refuted}
 use Rattle.pattern.proofs.pattern.Pattern.fits.Goals as goal
 
 keys_on : (sheet other : ExactSheet) (creases : List ExactCrease) → sheet ≡ other → All (λ f. IsKey sheet f.seg) creases → All (λ f. IsKey other f.seg) creases

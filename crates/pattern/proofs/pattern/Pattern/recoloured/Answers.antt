@@ -6,7 +6,7 @@ use Rattle.pattern.specs.Deltas.{Fits, Leads}
 use Rattle.pattern.specs.Fitting.{AreExchanged}
 use Rattle.pattern.specs.NativeReader.{on}
 use Rattle.pattern.proofs.Recolouring.{leads_recoloured, fits_recoloured}
-use Rattle.pattern.proofs.Told.{refuted, shown, answers_no, answers_yes}
+use Rattle.pattern.proofs.callers.Told.{refuted, shown, answers_no, answers_yes}
 use Rattle.pattern.proofs.pattern.Pattern.recoloured.Goals as goal
 
 creases_are : (x y : ExactPattern) → x ≡ y → x.creases ≡ y.creases

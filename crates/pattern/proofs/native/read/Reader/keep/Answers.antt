@@ -5,7 +5,7 @@ use Rattle.creases.proofs.callers.Standing.{put_last}
 use Rattle.pattern.specs.NativeReader.{on}
 use Rattle.pattern.proofs.Appending.{after_all, longer}
 use Rattle.pattern.proofs.NativeSteps.{one_too_many, overlaps_one}
-use Rattle.pattern.proofs.Told.{refuted}
+use Rattle.pattern.proofs.callers.Told.{refuted}
 use Rattle.pattern.proofs.native.read.Reader.keep.Goals as goal
 
 pub returns-then-is_free : goal.returns-then-is_free

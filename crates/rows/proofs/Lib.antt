@@ -1,0 +1,4 @@
+pub mod CreaseRows
+pub mod StepRows
+pub mod OneProject
+pub mod Changing
