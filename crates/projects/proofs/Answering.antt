@@ -28,9 +28,10 @@ use Rattle.projects.specs.declared.changes.Ready.{Ready}
 use Rattle.projects.specs.declared.early.Early.{Early}
 use Rattle.projects.specs.declared.early.Early.TheVariants as early
 use Rattle.projects.proofs.Committing.{can_commit}
-use Rattle.projects.proofs.Entries.{some_same, none_is_not_some}
+use Rattle.projects.proofs.Entries.{some_same}
 use Rattle.projects.proofs.Standing.{empty_stands}
 use Rattle.projects.proofs.TablesStanding.{names_stand, stand_at, found_stands, none_stands, some_stands, put_stands}
+use Rattle.creases.proofs.callers.SegmentChanges.{none_or_some}
 
 -- what is told more
 pub tells_more : (old new : Option Tables) (clean : Type 0) (F G : Tables → Tables → Type 0)
@@ -49,31 +50,9 @@ tells_on old mid new first last F G H f h clean k before e c =
     let u : (after : Tables) × AreTold t.0 after new G = k t.0 t.1.told c in
     (u.0, record { told = u.1.told; old_tables = t.1.old_tables; new_tables = u.1.new_tables; holds = f before t.0 u.0 t.1.holds u.1.holds })
 
--- the reply of the machine, and the keeper's fault
-pub replies_ok : (before after : Tables) (c : Command) (r : Reply) → Does before c (Ok r) after
-    → Replies before c (Ok r) after
-replies_ok before after c r d = record {
-  step = λ entries h. (let s = d.answer entries h in (s.0, s.1, inl (inl (record { reply = r; entries = s.0 }, s.2, refl, refl))));
-  same = d.same;
-}
-
-pub replies_refused : (before after : Tables) (c : Command) (why : Cause)
-    → Does before c (Err (early.Refused why)) after → Replies before c (Ok (reply.Refused why)) after
-replies_refused before after c why d = record {
-  step = λ entries h. (entries, subst (λ (t : Tables). StandFor t entries) (sym d.1) h, inl (inr (why, d.0 entries h, refl, refl)));
-  same = λ n. d.1;
-}
-
-pub replies_failed : (before after : Tables) (c : Command) → after ≡ before
-    → Replies before c (Ok reply.KeeperFailed) after
-replies_failed before after c d = record {
-  step = λ entries h. (entries, subst (λ (t : Tables). StandFor t entries) (sym d) h, inr (refl, refl));
-  same = λ n. d;
-}
-
 -- what is under a name is there, or not
 is_there : (kept : Option Entry) (e : Entry) → kept ≡ Some e → ¬ (kept ≡ None)
-is_there kept e s n = none_is_not_some kept e n s
+is_there kept e s n = none_or_some kept e n s
 
 not_there : (kept : Option Entry) → kept ≡ None → ¬ IsSome kept
 not_there None e h = cc
@@ -186,58 +165,6 @@ does_change before after name given c p ready f m k = record {
       ));
   same = λ n. absurd (n m.says);
 }
-
--- a keeper's call that failed
-pub does_fail : (before after : Tables) (c : Command) (e : KeeperEnd) → after ≡ before
-    → Does before c (Err (of_keeper e)) after
-does_fail before after c keeper.Failed same = same
-does_fail before after c keeper.NoMemory same = same
-
-pub fetch_fails : (before : Tables) (name : List ℕ) (e : KeeperEnd) → Fetched before name (Err (of_keeper e))
-fetch_fails before name keeper.Failed = tt
-fetch_fails before name keeper.NoMemory = tt
-
-pub keeper_ends : {T : Type 0} (before now : ℕ) (e : KeeperEnd)
-    → FailsWhereRose {T = T} before now (Err e) → EndsWhereRose before now (Err (of_keeper e))
-keeper_ends before now keeper.Failed h = record { later = h.later; failed = λ x. h.failed refl }
-keeper_ends before now keeper.NoMemory h = record { later = h.later; failed = λ x. absurd x }
-
-pub keeper_fetch_ends : {T : Type 0} (before now : ℕ) (e : KeeperEnd)
-    → FailsWhereRose {T = T} before now (Err e) → FetchesWhereRose before now (Err (of_keeper e))
-keeper_fetch_ends before now keeper.Failed h = record { later = h.later; failed = λ x. h.failed refl }
-keeper_fetch_ends before now keeper.NoMemory h = record { later = h.later; failed = λ x. cc }
-
-pub fetch_ends : (before now : ℕ) (e : Early) → FetchesWhereRose before now (Err e)
-    → EndsWhereRose before now (Err e)
-fetch_ends before now (early.Refused why) h = record { later = h.later; failed = λ x. absurd x }
-fetch_ends before now early.KeeperFailed h = record { later = h.later; failed = λ x. h.failed refl }
-fetch_ends before now early.NoMemory h = record { later = h.later; failed = λ x. absurd x }
-
-pub rose_before : (before between now : ℕ) → before ≤ between → Rose between now → Rose before now
-rose_before before between now l r = omega (arith, l, r)
-
-pub ends_later : (before between now : ℕ) (r : Result Reply Early) → before ≤ between
-    → EndsWhereRose between now r → EndsWhereRose before now r
-ends_later before between now r l h = record { later = omega (arith, l, h.later); failed = λ x. rose_before before between now l (h.failed x) }
-
-abbrev ok_reply : Reply → Result Reply NoMemory
-ok_reply r = Ok r
-
-same_reply : (x y : Reply) → ok_reply x ≡ ok_reply y → x ≡ y
-same_reply x y e = cc
-
-pub replies_rose : (before now : ℕ) (r : Reply) → EndsWhereRose before now (Ok r)
-    → RepliesWhereRose before now (Ok r)
-replies_rose before now r h = record { later = h.later; failed = λ e. h.failed (same_reply r reply.KeeperFailed e) }
-
--- the step may be committed
-pub may_commit : (old new : Option Tables) (clean : Type 0) (name : List ℕ) (step : Step) (p : ExactProject)
-    → Tells old clean new (λ before after. (after ≡ before) × (project_at before name ≡ Some p))
-    → (IsSome new → clean → IsSome old)
-    → p.rev < last_rev → StepFits p step → (tables : Tables) → new ≡ Some tables → clean
-    → CanCommit tables name step
-may_commit old new clean name step p t u r f = can_commit old new clean name step (Some p) p
-    (tells_more old new clean (λ before after. (after ≡ before) × (project_at before name ≡ Some p)) (λ before after. (after ≡ before) × (Some p ≡ project_at before name)) (λ before after h. (h.0, sym h.1)) t) u refl r f
 
 -- an end that is handed on
 pub does_end : (before after : Tables) (c : Command) (r : Result Reply Early) {y e : Early} → r ≡ Err y

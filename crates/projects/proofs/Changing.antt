@@ -4,7 +4,7 @@ use Rattle.std.specs.Prelude.{Option, Result, Ok, Err, IfOk, IfErr}
 use Rattle.sheet.specs.Pattern.{ExactPattern}
 use Rattle.pattern.specs.Deltas.{Fits, Leads, inverse_of}
 use Rattle.pattern.specs.declared.delta.Delta.{Delta}
-use Rattle.pattern.proofs.Leading.{leads_to_one}
+use Rattle.pattern.proofs.callers.Leading.{leads_to_one}
 use Rattle.ports.specs.Stops.{Refuses as RefusesBy}
 use Rattle.edits.specs.Answers.{Refuses as RefusesPlan}
 use Rattle.ports.specs.declared.stop.Stop.{Stop}
@@ -58,17 +58,6 @@ pub ok_map : {A : Type 0} (P Q : A → Type 0) → ((a : A) → P a → Q a) →
     → IfOk r Q
 ok_map P Q f (Ok a) h = f a h
 ok_map P Q f (Err e) h = tt
-
--- how the refusal of cutting, and that of an edit, end a command
-pub cut_ends : (now : ExactPattern) (e : Stop CutBad) → RefusesBy (IsCutAnswer now) e
-    → EndsBy (IsUncut now) (of_cut e)
-cut_ends now stop.NoMemory h = tt
-cut_ends now (stop.Why bad) h = (bad, h, refl)
-
-pub step_ends : (old : ExactPattern) (delta : Delta) (e : Stop CutBad) → RefusesStep old delta e
-    → EndsBy (IsUncutAfter old delta) (of_cut e)
-step_ends old delta stop.NoMemory h = tt
-step_ends old delta (stop.Why bad) h = λ new l. (bad, h new l, refl)
 
 -- the step of an edit leads to a project
 record PlanGoes (p : ExactProject) (e : Entry) (edit : Edit) (step : Step) (new : ExactPattern) : Type 0 where
@@ -248,10 +237,6 @@ makes_step p given c is cut t ready s = record {
   ));
 }
 
-pub refuses_uncut : (p : ExactProject) (given : Option ℕ) (c : Change) (why : Cause)
-    → IsUncut p.pattern why → RefusesChange p given c why
-refuses_uncut p given c why u e h = inl (u.0, subst (λ (x : ExactPattern). IsCutAnswer x (Err u.0)) (sym h.now) u.1, ap Err u.2)
-
 abbrev refused : Cause → Result (Unit {0}) Cause
 refused why = Err why
 
@@ -336,29 +321,12 @@ plan_uncut p edit d new f l o why u = inr (Do d, new, (d, refl, f, l, o), u new 
 abbrev pub ready_of : Step → Reply → Ready
 ready_of step r = record { step = step; reply = r }
 
-pub edit_on : (p : ExactProject) (edit : Edit) (step : Step) (rev : ℕ) → rev ≡ p.rev → PlansOn p edit step
-    → StepsOn p (change.Edit edit) (ready_of step (reply.Done (rev + 1)))
-edit_on p edit step rev e s = (s.0, (s.1, ap (λ (n : ℕ). reply.Done (n + 1)) e), s.2)
-
 pub edit_refuses : (p : ExactProject) (edit : Edit) (why : Cause) → RefusesEdit p edit why
     → Refuses p (change.Edit edit) why
 edit_refuses p edit why r = elim r [
   | inl s ↦ inl s
   | inr s ↦ inr (ready_of s.0 (reply.Done (p.rev + 1)), s.1, (s.2, refl), s.3)
 ]
-
--- the end of an import whose text is refused
-pub import_ends : (p : ExactProject) (lattice : Measures) (text : List ℕ) (e : Stop CpBad)
-    → RefusesBy (ReadsCp lattice p.pattern.sheet text) e
-    → EndsBy (Refuses p (change.Import lattice text)) (of_cp e)
-import_ends p lattice text stop.NoMemory h = tt
-import_ends p lattice text (stop.Why bad) h = inl (inl (bad, h, refl))
-
-pub import_on : (p : ExactProject) (lattice : Measures) (text : List ℕ) (read : CpLines) (step : Step) (rev : ℕ)
-    → ReadsCp lattice p.pattern.sheet text (Ok read) → rev ≡ p.rev → PlansOn p (edit.Lines read.lines) step
-    → StepsOn p (change.Import lattice text) (ready_of step (reply.Imported (rev + 1) (length read.lines) read.dropped))
-import_on p lattice text read step rev is e s =
-    (s.0, (read, is, s.1, ap (λ (n : ℕ). reply.Imported (n + 1) (length read.lines) read.dropped) e), s.2)
 
 pub import_refuses : (p : ExactProject) (lattice : Measures) (text : List ℕ) (read : CpLines)
     → ReadsCp lattice p.pattern.sheet text (Ok read)
@@ -368,19 +336,10 @@ import_refuses p lattice text read is why r = elim r [
   | inr s ↦ inr (ready_of s.0 (reply.Imported (p.rev + 1) (length read.lines) read.dropped), s.1, (read, is, s.2, refl), s.3)
 ]
 
-pub undo_on : (p : ExactProject) (d back : Delta) → IsLast p.history.past d → back ≡ inverse_of d
-    → LeadsToCut p.pattern back
-    → StepsOn p change.Undo (ready_of Undo (reply.Done (p.rev + 1)))
-undo_on p d back l e t = (t.0, (refl, (d, l, subst (λ (x : Delta). Leads p.pattern x t.0) e t.1), refl), t.2)
-
 pub undo_uncut : (p : ExactProject) (d back : Delta) → IsLast p.history.past d → back ≡ inverse_of d
     → Fits p.pattern back → (why : Cause) → IsUncutAfter p.pattern back why → Refuses p change.Undo why
 undo_uncut p d back l e f why u =
     inr (ready_of Undo (reply.Done (p.rev + 1)), f.leads.0, (refl, (d, l, subst (λ (x : Delta). Leads p.pattern x f.leads.0) e f.leads.1), refl), u f.leads.0 f.leads.1)
-
-pub redo_on : (p : ExactProject) (d : Delta) → IsFirst p.history.future d → LeadsToCut p.pattern d
-    → StepsOn p change.Redo (ready_of Redo (reply.Done (p.rev + 1)))
-redo_on p d l t = (t.0, (refl, (d, l, t.1), refl), t.2)
 
 pub redo_uncut : (p : ExactProject) (d : Delta) → IsFirst p.history.future d → Fits p.pattern d
     → (why : Cause) → IsUncutAfter p.pattern d why → Refuses p change.Redo why

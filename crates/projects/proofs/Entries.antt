@@ -12,12 +12,10 @@ use Rattle.std.proofs.lemmas.Map.{keys-set_value}
 use Rattle.std.proofs.lemmas.Map.Keys.{sorted_tail}
 use Rattle.std.proofs.lemmas.Map.Entries.{lookup_at_gap}
 use Rattle.std.proofs.lemmas.Map.Views.{All-keys-insert_entry, All-values-insert_entry, All-values-set_value}
-use Rattle.dialogue.specs.Names.{IsName, name_cmp}
+use Rattle.vocabulary.specs.Names.{IsName, name_cmp}
 use Rattle.projects.specs.Projects.{ExactProject, IsProject}
 use Rattle.projects.specs.Tables.{Tables, IsTables, project_at, with_project}
-
-pub none_is_not_some : {X : Type 0} (r : Option X) (x : X) → r ≡ None → r ≡ Some x → ⊥
-none_is_not_some r x e f = (let g = sym e ∙ f in cc)
+use Rattle.creases.proofs.callers.SegmentChanges.{none_or_some}
 
 pub some_same : {X : Type 0} (x y : X) → Some x ≡ Some y → x ≡ y
 some_same x y e = cc
@@ -32,7 +30,7 @@ set_is_put [] name old new s there = cc
 set_is_put (e ∷ tables) name old new s there = at (name_cmp name e.0) refl (λ later. set_is_put tables name old new (sorted_tail name_cmp e.0 (keys_of tables) s) later)
   where
     at : (r : Ordering) → name_cmp name e.0 ≡ r → (project_at tables name ≡ Some old → set_value (is_at (name_cmp name)) tables new ≡ with_project tables name new) → set_value (is_at (name_cmp name)) (e ∷ tables) new ≡ with_project (e ∷ tables) name new
-    at o.Less k rest = absurd (none_is_not_some (project_at (e ∷ tables) name) old (before_all e tables name s k) there)
+    at o.Less k rest = absurd (none_or_some (project_at (e ∷ tables) name) old (before_all e tables name s k) there)
     at o.Equal k rest = rw k refl
     at o.Greater k rest = rw k (ap (λ (es : Tables). e ∷ es) (rest (sym (ap (λ r. cond (is_eq r) (Some e.1) (project_at tables name)) k) ∙ there)))
 

@@ -8,7 +8,7 @@ use Rattle.std.specs.Cmp.Lexicographic.{nat_list_cmp_total}
 use Rattle.std.specs.FinMap.{nat_cmp-IsAntisymmetric, slice_cmp-IsAntisymmetric}
 use Rattle.std.specs.BTreeMap.{is_at}
 use Rattle.std.proofs.lemmas.Cmp.{tied_itself}
-use Rattle.dialogue.specs.Names.{name_cmp}
+use Rattle.vocabulary.specs.Names.{name_cmp}
 use Rattle.projects.specs.Projects.{ExactProject}
 use Rattle.projects.specs.Tables.{Tables, project_at, with_project}
 

@@ -3,14 +3,13 @@ use Rattle.std.proofs.Common.{◌≡◌, ◌-◌, List, [], ◌∷◌, ◌++◌,
 use Rattle.std.proofs.lemmas.List.{same_from_push, drop-append-le}
 use Rattle.pattern.specs.Deltas.{Fits, Leads, inverse_of}
 use Rattle.pattern.specs.declared.delta.Delta.{Delta}
-use Rattle.pattern.proofs.Leading.{leads_to_one, inverse_leads}
+use Rattle.pattern.proofs.callers.Leading.{leads_to_one, inverse_leads}
 use Rattle.history.specs.Histories.{ExactHistory, IsBack, last_thousand}
-use Rattle.history.proofs.Steps.{one_earlier, one_later}
+use Rattle.history.proofs.callers.Steps.{one_earlier, one_later, same_front}
 use Rattle.projects.specs.Projects.{ExactProject, IsProject}
 use Rattle.projects.specs.Steps.{Stepped, StepLeads, Done, Undone, Redone}
 use Rattle.projects.specs.declared.step.Step.{Step}
 use Rattle.projects.specs.declared.step.Step.TheVariants.{Do, Undo, Redo}
-use Rattle.projects.proofs.Walks.{same_first}
 use Rattle.projects.proofs.Stepping.{project_of, last_fits}
 
 same_project : (project other : ExactProject) → project.rev ≡ other.rev → project.pattern ≡ other.pattern → project.history ≡ other.history → project ≡ other
@@ -21,7 +20,7 @@ same_back : (later earlier other : ExactHistory) (b : IsBack later earlier) (d :
 same_back later earlier other b d = (let same : (earlier.past ≡ other.past) × (b.delta ≡ d.delta) = same_from_push earlier.past other.past b.delta d.delta (sym b.past ∙ d.past) in same.1)
 
 same_forth : (later other earlier : ExactHistory) (b : IsBack later earlier) (d : IsBack other earlier) → b.delta ≡ d.delta
-same_forth later other earlier b d = (let same : (b.delta ≡ d.delta) × (later.future ≡ other.future) = same_first later.future other.future b.delta d.delta (sym b.future ∙ d.future) in same.0)
+same_forth later other earlier b d = (let same : (b.delta ≡ d.delta) × (later.future ≡ other.future) = same_front later.future other.future b.delta d.delta (sym b.future ∙ d.future) in same.0)
 
 one_done : (before after other : ExactProject) (delta : Delta) → after.rev ≡ other.rev → Done before delta after → Done before delta other → after ≡ other
 one_done before after other delta r h k = same_project after other r (leads_to_one before.pattern after.pattern other.pattern delta h.pattern k.pattern) (h.history ∙ sym k.history)

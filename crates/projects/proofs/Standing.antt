@@ -4,7 +4,7 @@ use Rattle.sheet.specs.Sheet.{ExactSheet}
 use Rattle.sheet.specs.Pattern.{ExactPattern, IsPattern}
 use Rattle.pattern.specs.Deltas.{Fits, Leads, inverse_of}
 use Rattle.pattern.specs.declared.delta.Delta.{Delta}
-use Rattle.pattern.proofs.Leading.{leads_to_one, inverse_leads}
+use Rattle.pattern.proofs.callers.Leading.{leads_to_one, inverse_leads}
 use Rattle.history.specs.Histories.{ExactHistory, IsBack}
 use Rattle.projects.specs.Projects.{ExactProject, IsProject, Walk, empty_project}
 use Rattle.projects.specs.Steps.{Stepped}

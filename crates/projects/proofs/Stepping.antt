@@ -8,8 +8,9 @@ use Rattle.history.specs.Histories.{ExactHistory, IsBack, IsLast, IsFirst, pushe
 use Rattle.projects.specs.Projects.{ExactProject, IsProject, IsPast, IsFuture, last_rev}
 use Rattle.projects.specs.Steps.{Stepped, LeadsBack, LeadsForth}
 use Rattle.projects.specs.declared.step.Step.TheVariants.{Undo, Redo}
-use Rattle.pattern.proofs.Leading.{leads_to_one}
-use Rattle.projects.proofs.Walks.{IsTakenBack, taken_back, past_on, past_drop, future_step, same_first}
+use Rattle.pattern.proofs.callers.Leading.{leads_to_one}
+use Rattle.projects.proofs.Walks.{IsTakenBack, taken_back, past_on, past_drop, future_step}
+use Rattle.history.proofs.callers.Steps.{same_front}
 
 abbrev pub project_of : ℕ → ExactPattern → ExactHistory → ExactProject
 project_of rev pattern history = record { rev = rev; pattern = pattern; history = history }
@@ -52,7 +53,7 @@ undone_keeps before earlier h p r b u =
 -- the delta that is taken again is the next of the future
 pub first_forth : (before : ExactProject) (later : ExactPattern) (h : ExactHistory) (b : IsBack h before.history) → LeadsForth before later → Leads before.pattern b.delta later
 first_forth before later h b u =
-    let same : (u.0 ≡ b.delta) × (u.1.0 ≡ h.future) = same_first u.1.0 h.future u.0 b.delta (sym u.1.1 ∙ b.future) in
+    let same : (u.0 ≡ b.delta) × (u.1.0 ≡ h.future) = same_front u.1.0 h.future u.0 b.delta (sym u.1.1 ∙ b.future) in
     subst (λ (d : Delta). Leads before.pattern d later) same.0 u.2
 
 pub redone_keeps : (before : ExactProject) (later : ExactPattern) (h : ExactHistory) → IsProject before → before.rev < last_rev → IsBack h before.history → LeadsForth before later → IsProject (project_of (before.rev + 1) later h)

@@ -6,7 +6,7 @@ use Rattle.std.specs.declared.cmp.Ordering.TheVariants as o
 use Rattle.std.specs.BTreeMap.{is_at}
 use Rattle.std.specs.Map.{keys_of, values_of}
 use Rattle.std.proofs.lemmas.List.Elements.{All-head, All-tail}
-use Rattle.dialogue.specs.Names.{name_cmp}
+use Rattle.vocabulary.specs.Names.{name_cmp}
 use Rattle.projects.specs.Projects.{ExactProject, IsProject}
 use Rattle.projects.specs.Tables.{Tables, names_of, project_at, with_project}
 use Rattle.projects.specs.Entries.{Entry, Entries, StandsFor, StandFor, entry_at, with_entry}

@@ -5,9 +5,10 @@ use Rattle.std.specs.Prelude.{◌↔◌, Option, Some, None, IsSome, IfSome}
 use Rattle.sheet.specs.Pattern.{ExactPattern, IsPattern}
 use Rattle.pattern.specs.Deltas.{Fits, Leads, inverse_of}
 use Rattle.pattern.specs.declared.delta.Delta.{Delta}
-use Rattle.pattern.proofs.Leading.{leads_to_one, inverse_leads, inverse_fits}
+use Rattle.pattern.proofs.callers.Leading.{leads_to_one, inverse_leads, inverse_fits}
 use Rattle.history.specs.Histories.{ExactHistory, IsBack, IsLast, IsFirst}
 use Rattle.projects.specs.Projects.{Walk, IsPast, IsFuture}
+use Rattle.history.proofs.callers.Steps.{same_front}
 
 -- one walk after another
 pub walk_on : (from mid to : ExactPattern) (xs ys : List Delta) → Walk from xs mid → Walk mid ys to → Walk from (xs ++ ys) to
@@ -83,9 +84,6 @@ future_step deltas delta now later f l = (
   λ h. (h.0, (f, (later, l, h.1))),
 )
 
-pub future_fails : (deltas : List Delta) (delta : Delta) (now : ExactPattern) → (¬ Fits now delta) → ¬ IsFuture now (delta ∷ deltas)
-future_fails deltas delta now n h = n h.1.0
-
 -- the delta at the end of a past is the one that goes over to the future
 same_last : (rest later : ExactHistory) (delta : Delta) → IsLast rest.past delta → (b : IsBack rest later) → rest.past ≡ later.past ++ delta ∷ []
 same_last rest later delta last b =
@@ -103,20 +101,14 @@ past_goes_on rest later delta back now earlier p last e f l b =
 pub past_stops : (rest : List Delta) (delta back : Delta) (now : ExactPattern) → IsLast rest delta → back ≡ inverse_of delta → (¬ Fits now back) → ¬ IsPast rest now
 past_stops rest delta back now last e n h = past_fails last.0 delta now (λ f. n (subst (Fits now) (sym e) f)) (subst (λ (xs : List Delta). IsPast xs now) last.1 h)
 
-pub same_first : (deltas others : List Delta) (delta other : Delta) → delta ∷ deltas ≡ other ∷ others → (delta ≡ other) × (deltas ≡ others)
-same_first deltas others delta other e = (cc, cc)
-
 pub future_goes_on : (rest later : ExactHistory) (delta : Delta) (now next : ExactPattern) → IsFirst rest.future delta → Fits now delta → Leads now delta next → IsBack later rest → IsFuture now rest.future ↔ IsFuture next later.future
 future_goes_on rest later delta now next first f l b =
-    let same : (delta ≡ b.delta) × (first.0 ≡ later.future) = same_first first.0 later.future delta b.delta (sym first.1 ∙ b.future) in
+    let same : (delta ≡ b.delta) × (first.0 ≡ later.future) = same_front first.0 later.future delta b.delta (sym first.1 ∙ b.future) in
     let future : rest.future ≡ delta ∷ later.future = first.1 ∙ ap (λ (xs : List Delta). delta ∷ xs) same.1 in
     let s = future_step later.future delta now next f l in (
       λ h. s.0 (subst (λ (xs : List Delta). IsFuture now xs) future h),
       λ h. subst (λ (xs : List Delta). IsFuture now xs) (sym future) (s.1 h),
     )
-
-pub both_ways : {P Q R : Type 0} → P ↔ Q → Q ↔ R → P ↔ R
-both_ways a b = (λ p. b.0 (a.0 p), λ r. a.1 (b.1 r))
 
 -- where nothing was found, what was to be found is not there
 pub none_refutes : {X P : Type 0} (found : Option X) → found ≡ None → IsSome found ↔ P → ¬ P

@@ -14,9 +14,9 @@ use Rattle.projects.specs.Changes.{SaysDone}
 use Rattle.projects.specs.declared.early.Early.{Early}
 use Rattle.projects.specs.declared.early.Early.TheVariants as early
 
--- The reply to a command is a step of the machine over the entries for which the tables stand, or the keeper
--- failed. Where the reply does not say that a change is made, the tables are as before: so after each question,
--- after each refusal, and where the keeper failed.
+-- The reply to a command is a step of the machine over the entries for which the tables stand, or
+-- the keeper failed. Where the reply does not say that a change is made, the tables are as before:
+-- so after each question, after each refusal, and where the keeper failed.
 pub record IsReply (before : Tables) (c : Command) (r : Reply) (after : Tables) : Type 0 where
   pub step : (entries : Entries) → StandFor before entries
       → (next : Entries) × StandFor after next × StepOrFault entries c r next

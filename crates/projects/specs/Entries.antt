@@ -6,7 +6,7 @@ use Rattle.sheet.specs.Sheet.{ExactSheet}
 use Rattle.sheet.specs.Pattern.{ExactPattern, IsPattern}
 use Rattle.pattern.specs.Deltas.{Fits, Leads}
 use Rattle.pattern.specs.declared.delta.Delta.{Delta}
-use Rattle.dialogue.specs.Names.{name_cmp}
+use Rattle.vocabulary.specs.Names.{name_cmp}
 use Rattle.projects.specs.Projects.{ExactProject}
 use Rattle.projects.specs.Tables.{Tables}
 

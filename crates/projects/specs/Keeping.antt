@@ -6,15 +6,18 @@ use Rattle.projects.specs.declared.keeper.KeeperEnd.{KeeperEnd}
 use Rattle.projects.specs.declared.keeper.KeeperEnd.TheVariants.{Failed, NoMemory}
 
 -- tables that are told before and after a call, of which this holds
-pub record AreTold (before after : Tables) (new : Option Tables) (Holds : Tables → Tables → Type 0) : Type 0 where
+pub record AreTold (before after : Tables) (new : Option Tables)
+    (Holds : Tables → Tables → Type 0) : Type 0 where
   pub told : new ≡ Some after
   pub old_tables : IsTables before
   pub new_tables : IsTables after
   pub holds : Holds before after
 
--- Where the keeper tells its tables as the call begins, and its store is clean as it ends, it tells them as it ends too, and this holds of both.
+-- Where the keeper tells its tables as the call begins, and its store is clean as it ends, it tells
+-- them as it ends too, and this holds of both.
 abbrev pub Tells : Option Tables → Type 0 → Option Tables → (Tables → Tables → Type 0) → Type 0
-Tells old clean new Holds = (before : Tables) → old ≡ Some before → clean → (after : Tables) × AreTold before after new Holds
+Tells old clean new Holds = (before : Tables) → old ≡ Some before → clean → (after : Tables)
+    × AreTold before after new Holds
 
 -- the count has not fallen, and the call failed only where it rose
 pub record FailsWhereRose {T : Type 0} (before now : ℕ) (result : Result T KeeperEnd) : Type 0 where

@@ -1,5 +1,7 @@
--- The machine: what a command answers, and what it makes of the entries. It knows whole patterns and no deltas.
-use Rattle.std.specs.Prelude.{◌≡◌, ◌≢◌, ℕ, ◌+◌, ◌-◌, ◌⊎◌, List, [], ◌∷◌, ◌++◌, length, drop, Option, Some, None, IsSome, Result, Ok, Err}
+-- The machine: what a command answers, and what it makes of the entries. It knows whole patterns
+-- and no deltas.
+use Rattle.std.specs.Prelude.{◌≡◌, ◌≢◌, ℕ, ◌+◌, ◌-◌, ◌⊎◌, List, [], ◌∷◌, ◌++◌, length, drop, Option, Some}
+use Rattle.std.specs.Prelude.{None, IsSome, Result, Ok, Err}
 use Rattle.std.specs.Map.{keys_of}
 use Rattle.exact.specs.Plane.{ExactPoint}
 use Rattle.sheet.specs.Pattern.{ExactPattern}
@@ -31,7 +33,8 @@ use Rattle.dialogue.specs.declared.reply.Reply.{Reply}
 use Rattle.dialogue.specs.declared.reply.Reply.TheVariants as reply
 use Rattle.projects.specs.Entries.{Entry, Entries, entry_at, with_entry, fresh}
 
--- An answer is a value, or the cause of a refusal: the cause where the rule is broken, and else what the rest answers.
+-- An answer is a value, or the cause of a refusal: the cause where the rule is broken, and else
+-- what the rest answers.
 abbrev pub Unless : {A : Type 0} → Type 0 → Cause → (Result A Cause → Type 0) → Result A Cause → Type 0
 Unless IsBroken c Rest answer = (IsBroken × (answer ≡ Err c)) ⊎ ((¬ IsBroken) × Rest answer)
 
@@ -47,7 +50,8 @@ Shows rev now = UnlessUncut now (λ a.
     (s : ExactSubdivision) × IsCutAnswer now (Ok s) × (a ≡ Ok (reply.Shown rev s)))
 
 abbrev pub ListsFaults : ℕ → ExactPattern → Result Reply Cause → Type 0
-ListsFaults rev now = UnlessUncut now (λ a. (list : List Fault) × AreFaults now list × (a ≡ Ok (reply.Faults rev list)))
+ListsFaults rev now = UnlessUncut now
+    (λ a. (list : List Fault) × AreFaults now list × (a ≡ Ok (reply.Faults rev list)))
 
 abbrev pub Reports : ExactPoint → ℕ → ExactPattern → Result Reply Cause → Type 0
 Reports at rev now = UnlessUncut now
@@ -79,7 +83,8 @@ IsStale (Some given) kept = given ≢ kept
 abbrev pub last_thousand : List ExactPattern → List ExactPattern
 last_thousand ps = drop (length ps - 1000) ps
 
--- the entry after a new pattern, after the last one of the past was taken back, and after the next one of the future
+-- the entry after a new pattern, after the last one of the past was taken back, and after the next
+-- one of the future
 abbrev pub edited : Entry → ExactPattern → Entry
 edited e new = record { rev = e.rev + 1; past = last_thousand (e.past ++ e.now ∷ []); now = new; future = [] }
 
@@ -156,9 +161,11 @@ Under before name Of =
     (λ answer. (e : Entry) × (entry_at before name ≡ Some e) × Of e answer)
 
 -- a question about the pattern under the name
-abbrev pub Asked : Entries → List ℕ → (ℕ → ExactPattern → Result Reply Cause → Type 0) → Result Said Cause → Type 0
+abbrev pub Asked : Entries → List ℕ → (ℕ → ExactPattern → Result Reply Cause → Type 0) → Result Said Cause
+    → Type 0
 Asked before name Question =
-    Under before name (λ e answer. (r : Result Reply Cause) × Question e.rev e.now r × (answer ≡ told before r))
+    Under before name (λ e answer. (r : Result Reply Cause) × Question e.rev e.now r
+    × (answer ≡ told before r))
 
 -- what a command answers: where it is refused with a cause, nothing changes
 abbrev pub Answered : Entries → Command → Result Said Cause → Type 0

@@ -5,7 +5,8 @@ use Rattle.projects.specs.Tables.{Tables}
 use Rattle.projects.specs.declared.keeper.KeeperEnd.{KeeperEnd}
 use Rattle.projects.specs.declared.keeper.KeeperEnd.TheVariants.{Failed, NoMemory}
 
--- The tables and the path, which commits and which other calls fail, and the commits, other calls and faults so far.
+-- The tables and the path, which commits and which other calls fail, and the commits, other calls
+-- and faults so far.
 pub record KeeperState : Type 0 where
   pub tables : Tables
   pub path : Option (List ℕ)
@@ -15,7 +16,8 @@ pub record KeeperState : Type 0 where
   pub others : ℕ
   pub faults : ℕ
 
--- Exactly a call whose number is among these fails, and the count of faults rises in no other. Any call may answer want of memory in its place.
+-- Exactly a call whose number is among these fails, and the count of faults rises in no other. Any
+-- call may answer want of memory in its place.
 abbrev pub FailsByNumber : {T : Type 0} → List ℕ → ℕ → ℕ → ℕ → Result T KeeperEnd → Type 0
 FailsByNumber fail calls old new (Ok x) = (¬ Contains fail (counted calls)) × (new ≡ old)
 FailsByNumber fail calls old new (Err Failed) = Contains fail (counted calls) × (new ≡ counted old)

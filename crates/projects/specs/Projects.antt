@@ -16,7 +16,8 @@ pub record ExactProject : Type 0 where
 -- each delta fits the pattern where it stands and leads to the next one
 abbrev pub Walk : ExactPattern → List Delta → ExactPattern → Type 0
 Walk from [] to = from ≡ to
-Walk from (delta ∷ deltas) to = Fits from delta × ((next : ExactPattern) × Leads from delta next × Walk next deltas to)
+Walk from (delta ∷ deltas) to = Fits from delta
+    × ((next : ExactPattern) × Leads from delta next × Walk next deltas to)
 
 -- the deltas lead from some pattern to this one
 abbrev pub IsPast : List Delta → ExactPattern → Type 0
@@ -37,4 +38,8 @@ pub record IsProject (project : ExactProject) : Type 0 where
 -- the project on a sheet without creases and without steps
 abbrev pub empty_project : ExactSheet → ExactProject
 empty_project sheet =
-    record { rev = 0; pattern = record { sheet = sheet; creases = [] }; history = record { past = []; future = [] } }
+    record {
+      rev = 0;
+      pattern = record { sheet = sheet; creases = [] };
+      history = record { past = []; future = [] };
+    }

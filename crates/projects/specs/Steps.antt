@@ -42,8 +42,10 @@ pub record Stepped (before : ExactProject) (step : Step) (after : ExactProject) 
 
 -- the pattern to which the last delta of the past leads back
 abbrev pub LeadsBack : ExactProject → ExactPattern → Type 0
-LeadsBack project earlier = (delta : Delta) × IsLast project.history.past delta × Leads project.pattern (inverse_of delta) earlier
+LeadsBack project earlier = (delta : Delta) × IsLast project.history.past delta
+    × Leads project.pattern (inverse_of delta) earlier
 
 -- the pattern to which the next delta of the future leads
 abbrev pub LeadsForth : ExactProject → ExactPattern → Type 0
-LeadsForth project later = (delta : Delta) × IsFirst project.history.future delta × Leads project.pattern delta later
+LeadsForth project later = (delta : Delta) × IsFirst project.history.future delta
+    × Leads project.pattern delta later

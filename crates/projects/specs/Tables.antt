@@ -1,10 +1,11 @@
 -- Tables: a finite map from names to projects, listed by the names, ascending.
-use Rattle.std.specs.Prelude.{◌≡◌, ℕ, ◌<◌, List, All, Option, Some, None, IsSome, Result, Ok, Err, Bool, true, false}
+use Rattle.std.specs.Prelude.{◌≡◌, ℕ, ◌<◌, List, All, Option, Some, None, IsSome, Result, Ok, Err, Bool, true}
+use Rattle.std.specs.Prelude.{false}
 use Rattle.std.specs.BTreeMap.{is_at, insert_entry}
 use Rattle.std.specs.Map.{lookup, keys_of, values_of}
 use Rattle.std.specs.List.Sorted.{IsStrictlySortedBy}
 use Rattle.sheet.specs.Sheet.{ExactSheet}
-use Rattle.dialogue.specs.Names.{IsName, name_cmp}
+use Rattle.vocabulary.specs.Names.{IsName, name_cmp}
 use Rattle.projects.specs.Projects.{ExactProject, IsProject, empty_project, last_rev}
 use Rattle.projects.specs.Steps.{StepFits, Stepped}
 use Rattle.projects.specs.declared.step.Step.{Step}

@@ -6,23 +6,23 @@ ghost use Rattle.dialogue.specs.declared.command.Change.TheVariants as change;
 ghost use Rattle.pattern.specs.Deltas.{Fits};
 ghost use Rattle.projects.specs.Projects.{IsProject};
 ghost use Rattle.projects.specs.Machine.{Unless, IsStale};
-ghost use Rattle.projects.specs.Ends.{EndsBy, IsUncut};
+ghost use Rattle.projects.specs.Ends.{EndsBy};
 ghost use Rattle.projects.specs.Changes.{PlansOn, RefusesEdit, StepsOn, Refuses};
 ghost use Rattle.projects.specs.Changes.{LeadsToCut, IsUncutAfter, MakesStep, RefusesChange};
 
+use crate::cut::CutProject;
 use crate::early::Early;
-use crate::open::OpenProject;
 use crate::{Project, Step};
 use cpfile::read_cp;
 use dialogue::{Cause, Change, LAST_REV, Reply};
 use edits::{Edit, plan};
-use judge::Judged;
 use lattice::Lattice;
 use pattern::Delta;
 use ports::{Listed, Steps};
 use std::alloc::Global;
 use std::marker::Brand;
 use std::sync::ledger::{Blank, Ledger};
+use subdivide::Live;
 
 /// A step that can be taken, and what is answered after it.
 #[derive(Drop)]
@@ -41,7 +41,7 @@ pub(crate) fn step_of(
     ensures ok { IfOk result (MakesStep project given change.now) }
     ensures err { IfErr result (EndsBy (RefusesChange project given change.now)) }
 {
-    let opened = OpenProject::new(alloc, project)?;
+    let opened = CutProject::new(alloc, project)?;
     test_rev(opened.rev, given)?;
     change_step(alloc, &opened, change)
 }
@@ -63,7 +63,7 @@ fn test_rev(kept: u64, given: Option<u64>) -> Result<(), Cause>
 }
 
 /// The step that a change makes, where the pattern to which it leads is cut.
-fn change_step(alloc: Global, opened: &OpenProject, change: &Change) -> Result<Ready, Early>
+fn change_step(alloc: Global, opened: &CutProject, change: &Change) -> Result<Ready, Early>
     requires { IsProject opened.now }
     ensures ok { IfOk result (StepsOn opened.now change.now) }
     ensures err { IfErr result (EndsBy (Refuses opened.now change.now)) }
@@ -77,7 +77,7 @@ fn change_step(alloc: Global, opened: &OpenProject, change: &Change) -> Result<R
 }
 
 /// The step of an edit.
-fn edit_step(alloc: Global, opened: &OpenProject, edit: &Edit) -> Result<Ready, Early>
+fn edit_step(alloc: Global, opened: &CutProject, edit: &Edit) -> Result<Ready, Early>
     requires { IsProject opened.now }
     ensures ok { IfOk result (StepsOn opened.now (change.Edit edit.now)) }
     ensures err { IfErr result (EndsBy (Refuses opened.now (change.Edit edit.now))) }
@@ -94,7 +94,7 @@ fn edit_step(alloc: Global, opened: &OpenProject, edit: &Edit) -> Result<Ready, 
 /// The step that draws the lines of a CP text.
 fn import_step(
     alloc: Global,
-    opened: &OpenProject,
+    opened: &CutProject,
     lattice: &Lattice,
     text: &Listed<u8>,
 ) -> Result<Ready, Early>
@@ -102,7 +102,7 @@ fn import_step(
     ensures ok { IfOk result (StepsOn opened.now (change.Import lattice.now text.now)) }
     ensures err { IfErr result (EndsBy (Refuses opened.now (change.Import lattice.now text.now))) }
 {
-    let sheet = opened.judged.pattern().sheet();
+    let sheet = opened.live.pattern().sheet();
     let read = read_cp(alloc, text.as_slice(), lattice, &sheet)?;
     let drawn = read.lines.as_slice().len() as u64;
     let dropped = read.dropped;
@@ -118,17 +118,17 @@ fn import_step(
 }
 
 /// The step of an edit, where the pattern to which it leads is cut.
-fn planned(alloc: Global, opened: &OpenProject, edit: &Edit) -> Result<Step, Early>
+fn planned(alloc: Global, opened: &CutProject, edit: &Edit) -> Result<Step, Early>
     ensures ok { IfOk result (PlansOn opened.now edit.now) }
     ensures err { IfErr result (EndsBy (RefusesEdit opened.now edit.now)) }
 {
-    let delta = plan(alloc, opened.judged.pattern(), edit)?;
-    check(alloc, &opened.judged, &delta)?;
+    let delta = plan(alloc, opened.live.pattern(), edit)?;
+    check(alloc, &opened.live, &delta)?;
     Ok(Step::Do(delta))
 }
 
 /// The step that takes the last change back.
-fn undo_step(alloc: Global, opened: &OpenProject) -> Result<Ready, Early>
+fn undo_step(alloc: Global, opened: &CutProject) -> Result<Ready, Early>
     requires { IsProject opened.now }
     ensures ok { IfOk result (StepsOn opened.now change.Undo) }
     ensures err { IfErr result (EndsBy (Refuses opened.now change.Undo)) }
@@ -137,7 +137,7 @@ fn undo_step(alloc: Global, opened: &OpenProject) -> Result<Ready, Early>
         return Err(Early::Refused(Cause::NothingToUndo));
     };
     let back = last.copy(alloc)?.inverse();
-    check(alloc, &opened.judged, &back)?;
+    check(alloc, &opened.live, &back)?;
     Ok(Ready {
         step: Step::Undo,
         reply: Reply::Done {
@@ -147,7 +147,7 @@ fn undo_step(alloc: Global, opened: &OpenProject) -> Result<Ready, Early>
 }
 
 /// The step that makes the next change again.
-fn redo_step(alloc: Global, opened: &OpenProject) -> Result<Ready, Early>
+fn redo_step(alloc: Global, opened: &CutProject) -> Result<Ready, Early>
     requires { IsProject opened.now }
     ensures ok { IfOk result (StepsOn opened.now change.Redo) }
     ensures err { IfErr result (EndsBy (Refuses opened.now change.Redo)) }
@@ -155,7 +155,7 @@ fn redo_step(alloc: Global, opened: &OpenProject) -> Result<Ready, Early>
     let Some(next) = opened.history.next() else {
         return Err(Early::Refused(Cause::NothingToRedo));
     };
-    check(alloc, &opened.judged, next)?;
+    check(alloc, &opened.live, next)?;
     Ok(Ready {
         step: Step::Redo,
         reply: Reply::Done {
@@ -165,28 +165,23 @@ fn redo_step(alloc: Global, opened: &OpenProject) -> Result<Ready, Early>
 }
 
 /// Whether the pattern to which a delta leads is cut.
-fn check(alloc: Global, judged: &Judged, delta: &Delta) -> Result<(), Early>
-    requires { Fits judged.now delta.now }
-    ensures ok { IfOk result (λ _. LeadsToCut judged.now delta.now) }
-    ensures err { IfErr result (EndsBy (IsUncutAfter judged.now delta.now)) }
+fn check(alloc: Global, live: &Live, delta: &Delta) -> Result<(), Early>
+    requires { Fits live.now delta.now }
+    ensures ok { IfOk result (λ _. LeadsToCut live.now delta.now) }
+    ensures err { IfErr result (EndsBy (IsUncutAfter live.now delta.now)) }
 {
-    checked::<Brand>(alloc, judged, delta, Blank::new(1))
+    checked::<Brand>(alloc, live, delta, Blank::new(1))
 }
 
 /// The same, with a counter of its own.
-fn checked<L: Ledger>(
-    alloc: Global,
-    judged: &Judged,
-    delta: &Delta,
-    blank: Blank,
-) -> Result<(), Early>
-    requires fits { Fits judged.now delta.now }
+fn checked<L: Ledger>(alloc: Global, live: &Live, delta: &Delta, blank: Blank) -> Result<(), Early>
+    requires fits { Fits live.now delta.now }
     requires name { blank.name ≡ L.name }
     requires parts { blank.parts ≡ L.parts }
     requires some { 0 < blank.parts }
-    ensures ok { IfOk result (λ _. LeadsToCut judged.now delta.now) }
-    ensures err { IfErr result (EndsBy (IsUncutAfter judged.now delta.now)) }
+    ensures ok { IfOk result (λ _. LeadsToCut live.now delta.now) }
+    ensures err { IfErr result (EndsBy (IsUncutAfter live.now delta.now)) }
 {
-    let _plan = judged.check(alloc, delta, &mut Steps::<L>::begin(blank))?;
+    let _plan = live.check(alloc, delta, &mut Steps::<L>::begin(blank))?;
     Ok(())
 }

@@ -1,18 +1,19 @@
 //! What answers the commands of a designer.
-ghost use Rattle.std.specs.Prelude.{◌≡◌, IfOk, IsSome};
+ghost use Rattle.std.specs.Prelude.{◌≡◌, IsSome};
 ghost use Rattle.dialogue.specs.declared.command.Command.TheVariants as command;
 ghost use Rattle.projects.specs.Keeping.{Tells};
-ghost use Rattle.projects.specs.Projects.{IsProject};
-ghost use Rattle.projects.specs.Desk.{Replies, RepliesWhereRose, Does, EndsWhereRose, Fetched, FetchesWhereRose};
+ghost use Rattle.projects.specs.Desk.{Replies, RepliesWhereRose, Does, EndsWhereRose, Fetched};
+ghost use Rattle.projects.specs.Desk.{FetchesWhereRose};
 
 use crate::changes::step_of;
 use crate::early::Early;
 use crate::questions::{cp_written, faults, fold_written, reported, shown, written};
 use crate::{Keeper, Project};
-use dialogue::{Cause, Change, Command, Name, Reply};
+use dialogue::{Cause, Change, Command, Reply};
 use ports::{Listed, NoMemory};
 use sheet::Sheet;
 use std::alloc::Global;
+use vocabulary::Name;
 
 /// What answers commands, one after another. It keeps nothing between two calls.
 #[derive(Debug, Drop)]

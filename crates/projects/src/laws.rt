@@ -15,30 +15,40 @@ ghost use Rattle.projects.specs.declared.step.Step.TheVariants as step;
 
 /// A step leads from a project to one project.
 pub fn step_leads_to_one()
-    ensures { (before after other : ExactProject) (taken : AnyStep) → Stepped before taken after → Stepped before taken other → after ≡ other }
+    ensures { (before after other : ExactProject) (taken : AnyStep) → Stepped before taken after
+        → Stepped before taken other → after ≡ other }
 {}
 
 /// An undo after a delta gives the pattern back.
 pub fn undo_gives_back()
-    ensures { (before after again : ExactProject) (delta : AnyDelta) → IsProject before → Fits before.pattern delta → Stepped before (step.Do delta) after → Stepped after step.Undo again → again.pattern ≡ before.pattern }
+    ensures { (before after again : ExactProject) (delta : AnyDelta) → IsProject before
+        → Fits before.pattern delta → Stepped before (step.Do delta) after → Stepped after step.Undo again
+        → again.pattern ≡ before.pattern }
 {}
 
 /// A redo after an undo gives the pattern and the history back.
 pub fn redo_gives_back()
-    ensures pattern { (before after again : ExactProject) → IsProject before → Stepped before step.Undo after → Stepped after step.Redo again → again.pattern ≡ before.pattern }
-    ensures history { (before after again : ExactProject) → Stepped before step.Undo after → Stepped after step.Redo again → again.history ≡ before.history }
+    ensures pattern { (before after again : ExactProject) → IsProject before
+        → Stepped before step.Undo after → Stepped after step.Redo again → again.pattern ≡ before.pattern }
+    ensures history { (before after again : ExactProject) → Stepped before step.Undo after
+        → Stepped after step.Redo again → again.history ≡ before.history }
 {}
 
 /// A past leads to a pattern exactly where the inverse of its last delta fits there and leads to one
 /// to which the others lead.
 pub fn past_is_taken_back()
-    ensures { (deltas : List AnyDelta) (delta : AnyDelta) (now : ExactPattern) → IsPattern now → IsPast (deltas ++ delta ∷ []) now ↔ (Fits now (inverse_of delta) × ((earlier : ExactPattern) × Leads now (inverse_of delta) earlier × IsPast deltas earlier)) }
+    ensures { (deltas : List AnyDelta) (delta : AnyDelta) (now : ExactPattern) → IsPattern now
+        → IsPast (deltas ++ delta ∷ []) now
+        ↔ (Fits now (inverse_of delta)
+        × ((earlier : ExactPattern) × Leads now (inverse_of delta) earlier × IsPast deltas earlier)) }
 {}
 
 /// Tables with a project under a name have it there, and all others as they were.
 pub fn tables_hold_what_was_put()
-    ensures here { (tables : Tables) (name : List ℕ) (project : ExactProject) → project_at (with_project tables name project) name ≡ Some project }
-    ensures elsewhere { (tables : Tables) (name : List ℕ) (project : ExactProject) (other : List ℕ) → other ≢ name → project_at (with_project tables name project) other ≡ project_at tables other }
+    ensures here { (tables : Tables) (name : List ℕ) (project : ExactProject)
+        → project_at (with_project tables name project) name ≡ Some project }
+    ensures elsewhere { (tables : Tables) (name : List ℕ) (project : ExactProject) (other : List ℕ)
+        → other ≢ name → project_at (with_project tables name project) other ≡ project_at tables other }
 {}
 
 /// A project stands for one entry.
@@ -58,11 +68,14 @@ pub fn entries_are_one()
 /// Tables have the names of the entries for which they stand, and a project that is put under a name
 /// stands for an entry that is put under it.
 pub fn tables_stand_for_entries()
-    ensures names { (tables : Tables) (entries : Entries) → StandFor tables entries → names_of tables ≡ keys_of entries }
-    ensures put { (tables : Tables) (entries : Entries) (name : List ℕ) (project : ExactProject) (entry : Entry)
+    ensures names { (tables : Tables) (entries : Entries) → StandFor tables entries
+        → names_of tables ≡ keys_of entries }
+    ensures put { (tables : Tables) (entries : Entries) (name : List ℕ) (project : ExactProject)
+        (entry : Entry)
         → StandFor tables entries → StandsFor project entry
         → StandFor (with_project tables name project) (with_entry entries name entry) }
-    ensures there { (tables : Tables) (entries : Entries) (name : List ℕ) (project : ExactProject) (entry : Entry)
+    ensures there { (tables : Tables) (entries : Entries) (name : List ℕ) (project : ExactProject)
+        (entry : Entry)
         → StandFor tables entries → project_at tables name ≡ Some project → entry_at entries name ≡ Some entry
         → StandsFor project entry }
 {}

@@ -2,6 +2,7 @@
 #![tactic(auto)]
 
 mod changes;
+mod cut;
 mod desk;
 mod early;
 mod keeper;
@@ -14,7 +15,7 @@ mod step;
 mod tables;
 
 pub use desk::Desk;
-pub use dialogue::{Cause, Change, Command, Name, NotName, Reply};
+pub use dialogue::{Cause, Change, Command, Reply};
 pub use keeper::{Keeper, KeeperEnd};
 pub use laws::{
     entries_are_one, entry_is_one, past_is_taken_back, redo_gives_back, step_leads_to_one,
@@ -23,6 +24,7 @@ pub use laws::{
 pub use memory::MemKeeper;
 pub use project::Project;
 pub use step::Step;
+pub use vocabulary::{Name, NotName};
 
 #[cfg(test)]
 mod desk_tests;

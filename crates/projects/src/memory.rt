@@ -1,6 +1,7 @@
 //! A keeper in memory, with calls that fail at numbers of choice.
 ghost use Rattle.std.specs.Prelude.{◌≡◌, ◌≢◌, [], Some, None, Err, IfOk, OnOk, OnErr};
-ghost use Rattle.projects.specs.Tables.{IsTables, project_at, names_of, with_project, Created, CanCommit, Committed};
+ghost use Rattle.projects.specs.Tables.{IsTables, project_at, names_of, with_project, Created, CanCommit};
+ghost use Rattle.projects.specs.Tables.{Committed};
 ghost use Rattle.projects.specs.Keeping.{FailsWhereRose, path_after};
 ghost use Rattle.projects.specs.Memory.{FailsByNumber, CountsOther, CountsCommit, IsUntouched};
 
@@ -72,7 +73,8 @@ impl MemKeeper {
     ///
     /// `NoMemory` where memory for the tables runs out. Then the keeper is as it was.
     pub fn hold(&mut self, name: Name, project: Project) -> Result<(), NoMemory>
-        ensures ok { OnOk result (self.new ≡ record self.old { tables = with_project self.old.tables name project }) }
+        ensures ok { OnOk result
+            (self.new ≡ record self.old { tables = with_project self.old.tables name project }) }
         ensures err { OnErr result (self.new ≡ self.old) }
     {
         put_project(&mut self.tables, name, project)

@@ -1,6 +1,5 @@
 //! Projects: a pattern, how often it was changed, and the deltas that lead to it and on from it.
 ghost use Rattle.std.specs.Prelude.{◌≡◌, ◌+◌, ◌<◌, ◌↔◌, IfOk, IsSome, OnOk, OnErr, IfSome, IsTrue, length};
-ghost use Rattle.sheet.specs.Pattern.{IsPattern};
 ghost use Rattle.projects.specs.Projects.{IsProject, IsPast, IsFuture, empty_project, last_rev};
 ghost use Rattle.projects.specs.Steps.{StepFits, Stepped, LeadsBack, LeadsForth};
 
@@ -44,8 +43,11 @@ impl Project {
         pattern: Pattern,
         history: History,
     ) -> Result<Option<Project>, NoMemory>
-        ensures some { IfOk result (λ found. IfSome found (λ project. project ≡ record { rev = rev; pattern = pattern; history = history })) }
-        ensures exactly { IfOk result (λ found. IsSome found ↔ IsProject (record { rev = rev; pattern = pattern; history = history })) }
+        ensures some { IfOk result
+            (λ found. IfSome found
+            (λ project. project ≡ record { rev = rev; pattern = pattern; history = history })) }
+        ensures exactly { IfOk result
+            (λ found. IsSome found ↔ IsProject (record { rev = rev; pattern = pattern; history = history })) }
     {
         // what stands in them are a pattern and at most 1,000 deltas
         let _creases = pattern.len();

@@ -1,10 +1,10 @@
 //! Questions about the pattern of a project.
-ghost use Rattle.std.specs.Prelude.{◌≡◌};
 ghost use Rattle.projects.specs.Machine.{Shows, ListsFaults, Reports, Writes, WritesCp, WritesFold};
 ghost use Rattle.projects.specs.Ends.{Answers};
 ghost use Rattle.projects.specs.Desk.{HasFailed};
 
 use crate::Project;
+use crate::cut::CutProject;
 use crate::early::Early;
 use crate::open::OpenProject;
 use cpfile::write_cp;
@@ -20,8 +20,8 @@ pub(crate) fn shown(alloc: Global, project: Project) -> Result<Reply, Early>
     ensures answers { Answers (Shows project.rev project.pattern) result }
     ensures keeper { ¬ HasFailed result }
 {
-    let opened = OpenProject::new(alloc, project)?;
-    let subdivision = opened.judged.subdivision(alloc)?;
+    let opened = CutProject::new(alloc, project)?;
+    let subdivision = opened.live.subdivision(alloc)?;
     Ok(Reply::Shown {
         rev: opened.rev,
         subdivision,
@@ -67,8 +67,8 @@ pub(crate) fn cp_written(alloc: Global, project: Project) -> Result<Reply, Early
     ensures answers { Answers (WritesCp project.rev project.pattern) result }
     ensures keeper { ¬ HasFailed result }
 {
-    let opened = OpenProject::new(alloc, project)?;
-    let subdivision = opened.judged.subdivision(alloc)?;
+    let opened = CutProject::new(alloc, project)?;
+    let subdivision = opened.live.subdivision(alloc)?;
     Ok(Reply::Text(Listed::new(write_cp(alloc, &subdivision)?)))
 }
 
@@ -77,7 +77,7 @@ pub(crate) fn fold_written(alloc: Global, project: Project) -> Result<Reply, Ear
     ensures answers { Answers (WritesFold project.rev project.pattern) result }
     ensures keeper { ¬ HasFailed result }
 {
-    let opened = OpenProject::new(alloc, project)?;
-    let subdivision = opened.judged.subdivision(alloc)?;
+    let opened = CutProject::new(alloc, project)?;
+    let subdivision = opened.live.subdivision(alloc)?;
     Ok(Reply::Text(Listed::new(write_fold(alloc, &subdivision)?)))
 }

@@ -1,7 +1,5 @@
 //! Tables in memory: what is read from a map of names, and what is put into it.
 ghost use Rattle.std.specs.Prelude.{◌≡◌, IfOk, OnOk, OnErr};
-ghost use Rattle.dialogue.specs.Names.{IsName};
-ghost use Rattle.projects.specs.Projects.{IsProject};
 ghost use Rattle.projects.specs.Tables.{IsTables, names_of, project_at, with_project, CanCommit, IsCommitted};
 
 use crate::{Name, Project, Step};

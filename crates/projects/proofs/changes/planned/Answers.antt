@@ -15,7 +15,7 @@ use Rattle.projects.proofs.changes.planned.Goals as goal
 pub returns-in_err-delta-clause-err : goal.returns-in_err-delta-clause-err
 returns-in_err-delta-clause-err c =
     let h = err_from_is_err_and c.from_residual.result c.from_residual.ensures.1 in
-    let p : ExactProject = project_of c.opened.inside.rev c.opened.inside.judged c.opened.inside.history in
+    let p : ExactProject = project_of c.opened.inside.rev c.opened.inside.live c.opened.inside.history in
     let edit = c.args.edit.now in
     subst (λ (x : ExactProject). IfErr c.from_residual.result (EndsBy (RefusesEdit x edit))) c.opened.view_is
     (handed_on c.from_residual.result (RefusesEdit p edit) h.1 h.2
@@ -24,7 +24,7 @@ returns-in_err-delta-clause-err c =
 pub returns-in_err-check-clause-err : goal.returns-in_err-check-clause-err
 returns-in_err-check-clause-err c =
     let h = err_from_is_err_and c.from_residual-in_err-check.result c.from_residual-in_err-check.ensures.1 in
-    let p : ExactProject = project_of c.opened.inside.rev c.opened.inside.judged c.opened.inside.history in
+    let p : ExactProject = project_of c.opened.inside.rev c.opened.inside.live c.opened.inside.history in
     let edit = c.args.edit.now in
     let d = c.in_ok-delta.delta in
     let l = c.in_ok-delta.ensures.leads in
@@ -35,7 +35,7 @@ returns-in_err-check-clause-err c =
 
 pub returns-clause-ok : goal.returns-clause-ok
 returns-clause-ok c =
-    let p : ExactProject = project_of c.opened.inside.rev c.opened.inside.judged c.opened.inside.history in
+    let p : ExactProject = project_of c.opened.inside.rev c.opened.inside.live c.opened.inside.history in
     let edit = c.args.edit.now in
     let d = c.in_ok-delta.delta in
     let l = c.in_ok-delta.ensures.leads in

@@ -12,7 +12,7 @@ use Rattle.projects.proofs.changes.redo_step.Goals as goal
 pub returns-in_err-check-clause-err : goal.returns-in_err-check-clause-err
 returns-in_err-check-clause-err c =
     let h = err_from_is_err_and c.from_residual.result c.from_residual.ensures.1 in
-    let p : ExactProject = project_of c.opened.inside.rev c.opened.inside.judged c.opened.inside.history in
+    let p : ExactProject = project_of c.opened.inside.rev c.opened.inside.live c.opened.inside.history in
     let d = c.in-Some.next.now in
     let is : IsProject p = subst IsProject (sym c.opened.view_is) c.requires in
     subst (λ (x : ExactProject). IfErr c.from_residual.result (EndsBy (Refuses x change.Redo))) c.opened.view_is

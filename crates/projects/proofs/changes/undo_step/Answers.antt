@@ -12,13 +12,13 @@ use Rattle.projects.proofs.Changing.{ends_map, handed_on, undo_uncut}
 use Rattle.projects.proofs.changes.undo_step.Goals as goal
 
 pub check-requires : goal.check-requires
-check-requires c = subst (λ (d : Delta). Fits c.opened.inside.judged d) (sym (c.inverse-back.ensures ∙ ap inverse_of c.in_ok-copy.ensures))
-    (last_fits (project_of c.opened.inside.rev c.opened.inside.judged c.opened.inside.history) c.in-Some.last.now (subst IsProject (sym c.opened.view_is) c.requires) c.in-Some.ensures.some)
+check-requires c = subst (λ (d : Delta). Fits c.opened.inside.live d) (sym (c.inverse-back.ensures ∙ ap inverse_of c.in_ok-copy.ensures))
+    (last_fits (project_of c.opened.inside.rev c.opened.inside.live c.opened.inside.history) c.in-Some.last.now (subst IsProject (sym c.opened.view_is) c.requires) c.in-Some.ensures.some)
 
 pub returns-in_err-check-clause-err : goal.returns-in_err-check-clause-err
 returns-in_err-check-clause-err c =
     let h = err_from_is_err_and c.from_residual-in_err-check.result c.from_residual-in_err-check.ensures.1 in
-    let p : ExactProject = project_of c.opened.inside.rev c.opened.inside.judged c.opened.inside.history in
+    let p : ExactProject = project_of c.opened.inside.rev c.opened.inside.live c.opened.inside.history in
     let d = c.in-Some.last.now in
     let back = c.inverse-back.result in
     let inverse : back ≡ inverse_of d = c.inverse-back.ensures ∙ ap inverse_of c.in_ok-copy.ensures in

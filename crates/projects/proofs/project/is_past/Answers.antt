@@ -1,9 +1,10 @@
 use Rattle.std.proofs.Common.{refl}
 use Rattle.pattern.specs.Deltas.{Leads, inverse_of}
-use Rattle.pattern.proofs.Told.{answers_no}
+use Rattle.pattern.proofs.callers.Told.{answers_no}
 use Rattle.projects.specs.Projects.{IsPast}
-use Rattle.projects.proofs.Walks.{past_goes_on, past_stops, both_ways, none_refutes, some_proves, some_gives}
+use Rattle.projects.proofs.Walks.{past_goes_on, past_stops, none_refutes, some_proves, some_gives}
 use Rattle.projects.proofs.project.is_past.Goals as goal
+use Rattle.geometry.proofs.Segments.{join}
 
 pub returns-in-None : goal.returns-in-None
 returns-in-None c = answers_no (IsPast c.args.history.now.past c.args.pattern.now)
@@ -16,7 +17,7 @@ loop-delta-preserved c =
     = some_gives (Leads c.loop-delta.now (inverse_of c.in-Some.delta.now)) c.in_ok-earlier.field-0 c.in-Some-2.earlier c.in-Some-2.is c.in_ok-earlier.ensures.some in
     record {
       pattern = leads.pattern;
-      same = both_ways c.loop-delta.invariant.same
+      same = join c.loop-delta.invariant.same
           (past_goes_on c.loop-delta.rest c.back.new.self c.in-Some.delta.now (inverse_of c.in-Some.delta.now) c.loop-delta.now c.in-Some-2.earlier c.loop-delta.invariant.pattern c.in-Some.ensures.some refl
           (some_proves c.in_ok-earlier.field-0 c.in-Some-2.earlier c.in-Some-2.is c.in_ok-earlier.ensures.exactly) leads c.in_ok-back.ensures.ok);
     }

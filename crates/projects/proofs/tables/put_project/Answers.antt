@@ -1,7 +1,7 @@
 use Rattle.std.proofs.Common.{sym, subst}
 use Rattle.std.specs.Map.{keys_of}
 use Rattle.std.specs.List.Sorted.{IsStrictlySortedBy}
-use Rattle.dialogue.specs.Names.{name_cmp}
+use Rattle.vocabulary.specs.Names.{name_cmp}
 use Rattle.projects.specs.Tables.{Tables, IsTables}
 use Rattle.projects.proofs.Entries.{put_keeps}
 use Rattle.projects.proofs.tables.put_project.Goals as goal

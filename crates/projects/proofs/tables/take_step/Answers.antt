@@ -1,7 +1,7 @@
 use Rattle.std.proofs.Common.{◌≡◌, Some, sym, subst, ap, ◌∙◌}
 use Rattle.std.specs.BTreeMap.{is_at}
 use Rattle.std.proofs.lemmas.Map.Steps.{set_value_same}
-use Rattle.dialogue.specs.Names.{name_cmp}
+use Rattle.vocabulary.specs.Names.{name_cmp}
 use Rattle.projects.specs.Projects.{ExactProject}
 use Rattle.projects.specs.Steps.{Stepped}
 use Rattle.projects.specs.Tables.{Tables, IsTables, project_at}
