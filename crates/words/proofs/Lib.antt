@@ -1,0 +1,12 @@
+pub mod Elements
+pub mod Options
+pub mod Keeping
+pub mod GivenLists
+pub mod Numbers
+pub mod Spelled
+pub mod Bare
+pub mod Walks
+pub mod Serving
+pub mod Served
+pub mod FirstWords
+pub mod OneTask

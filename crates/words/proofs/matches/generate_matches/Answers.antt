@@ -1,0 +1,17 @@
+use Rattle.std.proofs.Common.{true, ap, ap₂, codes, map, ◌≡◌, ◌∙◌, string_bytes}
+use Rattle.std.proofs.lemmas.Result.{IfOk-weaker}
+use Rattle.clap.specs.Words.{app_of, is_simple, matches_of, with_rule}
+use Rattle.clap.specs.Simple.{app_of_fields}
+use Rattle.words.specs.Apps.{word_rule, bare_app, generate_app}
+use Rattle.words.proofs.Bare.{bare, generate_is_simple}
+use Rattle.words.proofs.matches.generate_matches.Goals as goal
+
+pub returns : goal.returns
+returns c =
+    let bare_is : app_of c.disable_help_flag.result ≡ bare_app (codes "generate") = ap app_of_fields c.disable_help_flag.ensures ∙ ap (λ f. app_of_fields (record f { disable_help_flag = true })) c.no_binary_name.ensures ∙ ap bare c.new.ensures.app in
+    let one_is : app_of c.in_ok-arg.field-0 ≡ with_rule (bare_app (codes "generate")) (word_rule (codes "seed")) = c.in_ok-arg.ensures.shape c.word-seed.ensures.local ∙ ap₂ with_rule bare_is c.word-seed.ensures.rule in
+    let app_is : app_of c.in_ok-command.command ≡ generate_app = c.in_ok-command.ensures.shape c.word-count.ensures.local ∙ ap₂ with_rule one_is c.word-count.ensures.rule in
+    let parse = c.try_get_matches_from in
+    record {
+      found = IfOk-weaker parse.result _ _ (λ m h. (h (ap is_simple app_is ∙ generate_is_simple)).0 ∙ ap (λ a. matches_of a (map string_bytes c.args.words.now)) app_is) parse.ensures.matches;
+    }
