@@ -1,0 +1,9 @@
+pub mod Statuses
+pub mod HeadText
+pub mod Requests
+pub mod Lengths
+pub mod Tests
+pub mod Answers
+pub mod Stages
+pub mod Fields
+pub mod Plans

@@ -1,0 +1,9 @@
+pub mod Cuts
+pub mod Walk
+pub mod Forms
+pub mod CutPaths
+pub mod Bytes
+pub mod Verbs
+pub mod Answered
+pub mod OneAsked
+pub mod Begins

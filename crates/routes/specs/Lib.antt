@@ -1,0 +1,10 @@
+pub mod Cuts
+pub mod Targets
+pub mod Routes
+pub mod Table
+pub mod Forms
+pub mod Methods
+pub mod Queries
+pub mod Edits
+pub mod FirstWords
+pub mod Asking
