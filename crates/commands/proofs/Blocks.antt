@@ -7,10 +7,6 @@ use Rattle.std.proofs.lemmas.Bool.{false≢true}
 use Rattle.ports.specs.Streams.{Puts}
 use Rattle.commands.specs.Blocks.{Added, Broken, Adds}
 
-pub added_none : (h : Option (List ℕ)) (b : List ℕ) → Added h b h b []
-added_none None b = tt
-added_none (Some old) b = ([], sym (append-nil old), sym (append-nil b))
-
 -- the parts of two additions
 two : (b s t p q rest last : List ℕ) → p ++ rest ≡ b ++ s → q ++ last ≡ rest ++ t → (p ++ q) ++ last ≡ b ++ (s ++ t)
 two b s t p q rest last e f =

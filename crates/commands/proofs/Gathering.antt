@@ -19,15 +19,6 @@ use Rattle.commands.specs.declared.bad.BadText.TheVariants as bad
 abbrev IsShort : List ℕ → Type 0
 IsShort line = length line ≤ line_limit
 
-pub gathers_none : (after text : List ℕ) → text ≡ [] → Gathers after text 0 true after
-gathers_none after text e = record {
-  lines = [];
-  front = refl;
-  text_is = e;
-  count_is = refl;
-  short_is = ((λ t. All-nil IsShort), (λ s. refl));
-}
-
 all_front : (lines : List (List ℕ)) (line : List ℕ) → AreShort (lines ++ line ∷ []) → AreShort lines
 all_front [] line a = All-nil IsShort
 all_front (l ∷ lines) line a = All-cons IsShort l lines (All-head IsShort l (lines ++ line ∷ []) a) (all_front lines line (All-tail IsShort l (lines ++ line ∷ []) a))
@@ -37,10 +28,6 @@ all_last [] line a = All-head IsShort line [] a
 all_last (l ∷ lines) line a = all_last lines line (All-tail IsShort l (lines ++ line ∷ []) a)
 
 -- whether bytes are left
-pub some_left : (rest : List ℕ) (b : Bool) → b ≡ (length rest == 0) → b ≡ false → rest ≢ []
-some_left [] b e f = λ h. cc
-some_left (x ∷ rest) b e f = λ h. cc
-
 -- one line more
 pub gathers_more : (after text rest line later new : List ℕ) (count after_count : ℕ) (short now : Bool)
     → Gathers after text count short rest → rest ≢ [] → IsFirstLine rest line later

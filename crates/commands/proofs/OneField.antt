@@ -12,15 +12,17 @@ use Rattle.sheet.specs.declared.colour.Colour.TheVariants as colour
 use Rattle.sheet.specs.declared.mark.Mark.{Mark}
 use Rattle.sheet.specs.declared.mark.Mark.TheVariants as mark
 use Rattle.pattern.specs.NativeText.{letter}
-use Rattle.dialogue.specs.Names.{IsName}
+use Rattle.vocabulary.specs.Names.{IsName}
 use Rattle.dialogue.specs.Revs.{last_rev}
-use Rattle.commands.specs.Spelling.{verb_text, mark_letter, IsWho, rev_text, who_text}
+use Rattle.vocabulary.specs.Verbs.{verb_text}
+use Rattle.commands.specs.Spelling.{mark_letter, IsWho, rev_text, who_text}
 use Rattle.commands.specs.Fields.{Spells, AVerb, AName, AWho, AColour, AMark, ADirection, ANumber, ALength}
 use Rattle.commands.specs.declared.who.Who.{Who}
-use Rattle.commands.specs.declared.verb.Verb.{Verb}
-use Rattle.commands.specs.declared.verb.Verb.TheVariants as verb
-use Rattle.lines.proofs.callers.Elements.{same_heads}
+use Rattle.vocabulary.specs.declared.verb.Verb.{Verb}
+use Rattle.vocabulary.specs.declared.verb.Verb.TheVariants as verb
+use Rattle.chains.proofs.callers.Elements.{same_heads}
 use Rattle.commands.proofs.Whos.{is_at, at_behind, no_at, take_all, drop_all}
+use Rattle.pattern.proofs.callers.OneText.{letter_of_one}
 
 -- bytes are read as one value, or are wrong for one reason
 abbrev pub HasOne : {A : Type 0} → (List ℕ → Result A NumText → Type 0) → Type 0
@@ -87,19 +89,8 @@ pub one_name : HasOne AName
 one_name = spells_one IsName (λ name. name) (λ a b h k e. e)
 
 -- the colour and the mark of a letter, found again
-one_letter : (c d : Colour) → letter c ≡ letter d → c ≡ d
-one_letter colour.M colour.M e = refl
-one_letter colour.M colour.V e = absurd (omega arith)
-one_letter colour.M colour.A e = absurd (omega arith)
-one_letter colour.V colour.M e = absurd (omega arith)
-one_letter colour.V colour.V e = refl
-one_letter colour.V colour.A e = absurd (omega arith)
-one_letter colour.A colour.M e = absurd (omega arith)
-one_letter colour.A colour.V e = absurd (omega arith)
-one_letter colour.A colour.A e = refl
-
 pub one_colour : HasOne AColour
-one_colour = spells_one (λ c. Unit {0}) (λ c. letter c ∷ []) (λ c d h k e. one_letter c d (same_heads e))
+one_colour = spells_one (λ c. Unit {0}) (λ c. letter c ∷ []) (λ c d h k e. letter_of_one c d (same_heads e))
 
 one_mark_letter : (m n : Mark) → mark_letter m ≡ mark_letter n → m ≡ n
 one_mark_letter mark.M mark.M e = refl

@@ -8,7 +8,8 @@ use Rattle.qroot2.specs.Digits.{Lacks}
 use Rattle.qroot2.specs.declared.text.NumText.{NumText}
 use Rattle.qroot2.specs.declared.text.NumText.TheVariants.{Syntax, Range}
 use Rattle.plane.specs.PointReads.{ReadsPoint}
-use Rattle.lines.proofs.callers.Elements.{same_heads, same_tails}
+use Rattle.chains.proofs.callers.Elements.{same_heads, same_tails}
+use Rattle.pattern.proofs.callers.LineText.{canonical_within}
 
 -- a text is that of one number
 abbrev pub HasOneNumber : Type 0
@@ -82,14 +83,11 @@ one_comma (x ∷ xs) (y ∷ ys) zs bs h k e =
     ((λ i. p i ∷ q i), r.1)
 
 -- one answer of reading a number
-within : (x : ExactNumber) → IsCanonical x → IsWithinLimits x
-within x c = record { a = c.a; b = c.b; d = c.d }
-
 number_not : HasOneNumber → (bytes : List ℕ) (n : ExactNumber) (why : NumText) → Reads bytes (Ok n) → Reads bytes (Err why) → ⊥
 number_not one bytes n Syntax h k = (k n h.0.positive h.1).1 h.0.lowest
 number_not one bytes n Range h k =
     let e = one n k.0 h.0.positive k.1 (h.1 ∙ sym k.2) in
-    k.3 (subst IsWithinLimits e (within n h.0))
+    k.3 (subst IsWithinLimits e (canonical_within n h.0))
 
 two_whys : (bytes : List ℕ) → Reads bytes (Err Syntax) → Reads bytes (Err Range) → ⊥
 two_whys bytes h k = k.3 (h k.0 k.1 k.2).0

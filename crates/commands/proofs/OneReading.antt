@@ -12,8 +12,8 @@ use Rattle.commands.specs.declared.ask.ImportLine.{ImportLine}
 use Rattle.commands.specs.declared.who.Who.{Who}
 use Rattle.lattice.specs.Lattice.{Measures}
 use Rattle.commands.specs.declared.bad.BadText.{BadText}
-use Rattle.commands.specs.declared.verb.Verb.{Verb}
-use Rattle.commands.specs.declared.verb.Verb.TheVariants as verb
+use Rattle.vocabulary.specs.declared.verb.Verb.{Verb}
+use Rattle.vocabulary.specs.declared.verb.Verb.TheVariants as verb
 use Rattle.lines.proofs.callers.Lines.{one_line, one_bare, one_front}
 use Rattle.lines.proofs.callers.Words.{one_list}
 use Rattle.commands.proofs.OneField.{HasOne, one_verb, one_name, one_who, one_colour, one_mark, one_direction, one_number, one_length}

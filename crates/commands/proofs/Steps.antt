@@ -8,7 +8,7 @@ use Rattle.commands.specs.Fields.{ALength}
 use Rattle.commands.specs.Reading.{TakesFirst, Takes, EndsWith, Ends, SheetOf, CommandOf, whole, wrong_at}
 use Rattle.commands.specs.Taking.{IsTaken, IsWrong, IsWrongWord, HasMore}
 use Rattle.commands.specs.declared.ask.Asked.{Asked}
-use Rattle.commands.specs.declared.verb.Verb.{Verb}
+use Rattle.vocabulary.specs.declared.verb.Verb.{Verb}
 use Rattle.commands.specs.declared.bad.BadText.{BadText}
 use Rattle.commands.specs.declared.bad.BadText.TheVariants as bad
 

@@ -5,13 +5,13 @@ use Rattle.std.specs.List.{position_or_len}
 use Rattle.std.proofs.lemmas.Bool.Decides.{nat_tests}
 use Rattle.std.proofs.lemmas.List.{append-nil}
 use Rattle.std.proofs.lemmas.List.Elements.{All-head, All-tail}
-use Rattle.dialogue.specs.Names.{IsName, IsNameByte}
+use Rattle.vocabulary.specs.Names.{IsName, IsNameByte}
 use Rattle.dialogue.specs.Revs.{last_rev}
 use Rattle.commands.specs.Spelling.{rev_text, who_text}
 use Rattle.commands.specs.Fields.{AWho}
 use Rattle.commands.specs.Taking.{ReadsOption, HasName}
 use Rattle.commands.specs.declared.who.Who.{Who}
-use Rattle.lines.proofs.callers.Elements.{placed, unplaced}
+use Rattle.chains.proofs.callers.Elements.{placed, unplaced}
 
 abbrev pub is_at : ℕ → Bool
 is_at b = b == 64

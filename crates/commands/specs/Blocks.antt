@@ -23,6 +23,7 @@ Broken (Some old) block None text = ⊥
 Broken (Some old) block (Some new) text = (part : List ℕ) × IsFront part (block ++ text) × (new ≡ old ++ part)
 
 -- the text is added, or a fault comes
-abbrev pub Adds : {T E : Type 0} → Option (List ℕ) → List ℕ → Option (List ℕ) → List ℕ → List ℕ → Result T E → Type 0
+abbrev pub Adds : {T E : Type 0} → Option (List ℕ) → List ℕ → Option (List ℕ) → List ℕ → List ℕ → Result T E
+    → Type 0
 Adds old block new rest text (Ok x) = Added old block new rest text
 Adds old block new rest text (Err e) = Broken old block new text

@@ -8,10 +8,11 @@ use Rattle.sheet.specs.declared.colour.Colour.{Colour}
 use Rattle.sheet.specs.declared.mark.Mark.{Mark}
 use Rattle.plane.specs.PointReads.{ReadsPoint}
 use Rattle.pattern.specs.NativeText.{letter}
-use Rattle.dialogue.specs.Names.{IsName}
-use Rattle.commands.specs.Spelling.{verb_text, mark_letter, IsWho, who_text}
+use Rattle.vocabulary.specs.Names.{IsName}
+use Rattle.vocabulary.specs.Verbs.{verb_text}
+use Rattle.commands.specs.Spelling.{mark_letter, IsWho, who_text}
 use Rattle.commands.specs.declared.who.Who.{Who}
-use Rattle.commands.specs.declared.verb.Verb.{Verb}
+use Rattle.vocabulary.specs.declared.verb.Verb.{Verb}
 
 -- the one of some values that the bytes spell
 abbrev pub Spells : {A : Type 0} → (A → Type 0) → (A → List ℕ) → List ℕ → Result A NumText → Type 0

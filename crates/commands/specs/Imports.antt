@@ -1,5 +1,6 @@
 -- The lines that belong to an import, and what they make of it.
-use Rattle.std.specs.Prelude.{◌≡◌, ℕ, ◌+◌, ◌<◌, ◌≤◌, ◌⊎◌, List, [], ◌∷◌, ◌++◌, length, flat_map, All, Option, Some, Result, Ok, Err}
+use Rattle.std.specs.Prelude.{◌≡◌, ℕ, ◌+◌, ◌<◌, ◌≤◌, ◌⊎◌, List, [], ◌∷◌, ◌++◌, length, flat_map, All, Option}
+use Rattle.std.specs.Prelude.{Some, Result, Ok, Err}
 use Rattle.dialogue.specs.declared.command.Change.TheVariants as change
 use Rattle.dialogue.specs.declared.command.Command.{Command}
 use Rattle.lines.specs.Lines.{AreFirstLines}

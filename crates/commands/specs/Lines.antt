@@ -1,5 +1,6 @@
 -- The lines of a command, and what reading a text as a command answers.
-use Rattle.std.specs.Prelude.{◌≡◌, ℕ, ◌+◌, ◌<◌, ◌≤◌, ◌⊎◌, List, [], ◌∷◌, length, Option, None, Result, Ok, Err, slice_index}
+use Rattle.std.specs.Prelude.{◌≡◌, ℕ, ◌+◌, ◌<◌, ◌≤◌, ◌⊎◌, List, [], ◌∷◌, length, Option, None, Result, Ok}
+use Rattle.std.specs.Prelude.{Err, slice_index}
 use Rattle.dialogue.specs.declared.command.Command.{Command}
 use Rattle.lines.specs.Words.{Word, AreWords}
 use Rattle.lines.specs.Lines.{IsBare, IsFirstLine}

@@ -17,8 +17,8 @@ use Rattle.commands.specs.declared.ask.Asked.TheVariants as asked
 use Rattle.commands.specs.declared.bad.BadText.{BadText}
 use Rattle.commands.specs.declared.bad.BadText.TheVariants as bad
 use Rattle.commands.specs.declared.who.Who.{Who}
-use Rattle.commands.specs.declared.verb.Verb.{Verb}
-use Rattle.commands.specs.declared.verb.Verb.TheVariants as verb
+use Rattle.vocabulary.specs.declared.verb.Verb.{Verb}
+use Rattle.vocabulary.specs.declared.verb.Verb.TheVariants as verb
 
 -- a word that is wrong at this column
 abbrev pub wrong_at : ℕ → NumText → BadText
@@ -34,7 +34,8 @@ TakesFirst {A = A} Reads Next missing (word ∷ words) answer =
     ⊎ ((a : A) × Reads word.text (Ok a) × Next a (record { words = words; missing = missing }) answer)
 
 pub record Takes {A : Type 0} (Reads : List ℕ → Result A NumText → Type 0)
-    (Next : A → Left → Result Asked BadText → Type 0) (left : Left) (answer : Result Asked BadText) : Type 0 where
+    (Next : A → Left → Result Asked BadText → Type 0) (left : Left)
+    (answer : Result Asked BadText) : Type 0 where
   pub first : TakesFirst Reads Next left.missing left.words answer
 
 -- no word is left

@@ -66,10 +66,12 @@ why_word (why.Blocked run) = codes "blocked"
 
 abbrev pub why_end : Why → List ℕ
 why_end (why.Kawasaki even odd count) =
-    codes "even " ++ (numeral even ++ (codes " odd " ++ (numeral odd ++ (codes " rays " ++ (numeral count ++ 10 ∷ [])))))
+    codes "even " ++ (numeral even ++
+    (codes " odd " ++ (numeral odd ++ (codes " rays " ++ (numeral count ++ 10 ∷ [])))))
 why_end (why.Maekawa m v) = codes "mountains " ++ (numeral m ++ (codes " valleys " ++ (numeral v ++ 10 ∷ [])))
 why_end (why.Blocked run) =
-    codes "from " ++ (numeral run.from ++ (codes " to " ++ (numeral run.to ++ (codes " angle " ++ (numeral run.angle
+    codes "from " ++ (numeral run.from ++
+    (codes " to " ++ (numeral run.to ++ (codes " angle " ++ (numeral run.angle
     ++ (codes " count " ++ (numeral run.count ++ 10 ∷ [])))))))
 
 -- a vertex that does not fold flat
@@ -250,6 +252,18 @@ reply_text (reply.Text bytes) = numbered_line (codes "text") (line_count bytes) 
 reply_text (reply.Names names) = numbered_line (codes "names") (length names) ++ name_lines names
 reply_text (reply.Refused why) = refused_text (cause_text why)
 reply_text reply.KeeperFailed = codes "keeper-failed" ++ 10 ∷ []
+
+-- a reply without the line that says how many lines a text has
+abbrev pub body_text : Reply → List ℕ
+body_text (reply.Done rev) = reply_text (reply.Done rev)
+body_text (reply.Imported rev drawn dropped) = reply_text (reply.Imported rev drawn dropped)
+body_text (reply.Shown rev s) = reply_text (reply.Shown rev s)
+body_text (reply.Faults rev list) = reply_text (reply.Faults rev list)
+body_text (reply.Vertex at r) = reply_text (reply.Vertex at r)
+body_text (reply.Text bytes) = bytes
+body_text (reply.Names names) = reply_text (reply.Names names)
+body_text (reply.Refused why) = reply_text (reply.Refused why)
+body_text reply.KeeperFailed = reply_text reply.KeeperFailed
 
 -- what is written for a text that is no command
 abbrev pub bad_text : BadText → List ℕ

@@ -1,8 +1,8 @@
 -- What the reader of words knows when it has taken one.
-use Rattle.std.specs.Prelude.{◌≡◌, ◌≢◌, ℕ, ◌<◌, ◌⊎◌, List, [], length, Option, Some, None, Result, Ok, Err, slice_index}
+use Rattle.std.specs.Prelude.{◌≡◌, ℕ, ◌⊎◌, List, [], Option, Some, None, Result, Ok, Err}
 use Rattle.qroot2.specs.declared.text.NumText.{NumText}
 use Rattle.qroot2.specs.declared.text.NumText.TheVariants.{Syntax}
-use Rattle.dialogue.specs.Names.{IsName}
+use Rattle.vocabulary.specs.Names.{IsName}
 use Rattle.lines.specs.Words.{Word, Left, before}
 use Rattle.commands.specs.Reading.{wrong_at}
 use Rattle.commands.specs.declared.who.Who.{Who}
@@ -14,25 +14,21 @@ abbrev pub ReadsOption : {A : Type 0} → (List ℕ → Result A NumText → Typ
 ReadsOption Reads bytes (Some a) = Reads bytes (Ok a)
 ReadsOption Reads bytes None = Reads bytes (Err Syntax)
 
--- a `+` is not the first byte, and a zero only where it is alone
-pub record IsPlain (bytes : List ℕ) : Type 0 where
-  pub some : 0 < length bytes
-  pub sign : slice_index bytes 0 ≢ 43
-  pub zeros : slice_index bytes 0 ≡ 48 → length bytes ≡ 1
-
 -- a project of this name, where it is one, and of this rev
 abbrev pub HasName : List ℕ → Option ℕ → Option Who → Type 0
 HasName name rev (Some who) = IsName name × (who.name ≡ name) × (who.rev ≡ rev)
 HasName name rev None = ¬ IsName name
 
 -- the first word was taken, and is read as this value
-pub record IsTaken {A : Type 0} (Reads : List ℕ → Result A NumText → Type 0) (old : Left) (a : A) (new : Left) : Type 0 where
+pub record IsTaken {A : Type 0} (Reads : List ℕ → Result A NumText → Type 0) (old : Left) (a : A)
+    (new : Left) : Type 0 where
   pub word : Word
   pub taken : old ≡ before word new
   pub reads : Reads word.text (Ok a)
 
 -- the first word is missing or wrong
-pub record IsWrongWord {A : Type 0} (Reads : List ℕ → Result A NumText → Type 0) (old : Left) (why : BadText) : Type 0 where
+pub record IsWrongWord {A : Type 0} (Reads : List ℕ → Result A NumText → Type 0) (old : Left)
+    (why : BadText) : Type 0 where
   pub word : Word
   pub new : Left
   pub taken : old ≡ before word new

@@ -1,16 +1,17 @@
 //! What is asked for, by its words: what is to be done, and then what belongs to it.
 ghost use Rattle.std.specs.Prelude.{◌≡◌};
-ghost use Rattle.commands.specs.Reading.{CommandOf, ImportOf, ReadsWords, changed as changed_by, edited as edited_by};
+ghost use Rattle.commands.specs.Reading.{CommandOf, ImportOf, ReadsWords, changed as changed_by};
+ghost use Rattle.commands.specs.Reading.{edited as edited_by};
 
 use crate::BadText;
 use crate::ask::{Asked, ImportLine};
-use crate::verb::Verb;
 use crate::who::Who;
 use crate::words::Words;
 use dialogue::{Change, Command};
 use edits::Edit;
 use lattice::Lattice;
 use sheet::Sheet;
+use vocabulary::Verb;
 
 /// What the words ask for.
 ///

@@ -1,6 +1,6 @@
 //! Bytes that go to a sink in blocks.
-ghost use Rattle.std.specs.Prelude.{◌≡◌, []};
-ghost use Rattle.ports.specs.Streams.{HasCause, Puts};
+ghost use Rattle.std.specs.Prelude.{◌≡◌};
+ghost use Rattle.ports.specs.Streams.{HasCause};
 ghost use Rattle.commands.specs.Blocks.{Adds, joined};
 
 use arrayvec::ArrayVec;

@@ -1,7 +1,11 @@
 //! Why a command is refused, as it is written.
 ghost use Rattle.std.specs.Prelude.{◌≡◌, ◌≤◌, ◌++◌, ◌∷◌, length};
 ghost use Rattle.qroot2.specs.Text.{numeral};
-ghost use Rattle.commands.specs.ReplyText.{cause_word as word_of_cause, cause_rest as rest_of_cause, cut_word as word_of_cut, cut_rest as rest_of_cut, edit_word as word_of_edit, edit_rest as rest_of_edit, cp_word as word_of_cp, cp_rest as rest_of_cp, field_text, point_name as name_of_point, ends_text};
+ghost use Rattle.commands.specs.ReplyText.{cause_word as word_of_cause, cause_rest as rest_of_cause};
+ghost use Rattle.commands.specs.ReplyText.{cut_word as word_of_cut, cut_rest as rest_of_cut};
+ghost use Rattle.commands.specs.ReplyText.{edit_word as word_of_edit, edit_rest as rest_of_edit};
+ghost use Rattle.commands.specs.ReplyText.{cp_word as word_of_cp, cp_rest as rest_of_cp, field_text};
+ghost use Rattle.commands.specs.ReplyText.{point_name as name_of_point, ends_text};
 
 use crate::digits::digits;
 use arrayvec::ArrayVec;

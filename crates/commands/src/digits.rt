@@ -11,7 +11,7 @@ use sheet::Mark;
 use subdivide::EdgeKind;
 
 /// The decimal digits of a number.
-#[tactic(auto, using(qroot2::proofs::Decimals::numeral_decimal))]
+#[tactic(auto, using(qroot2::proofs::callers::Decimals::numeral_decimal))]
 pub(crate) fn digits(buffer: &mut Buffer, number: u64) -> &[u8]
     ensures text { result.now ≡ numeral number }
     ensures short { length result.now ≤ 40 }

@@ -1,19 +1,20 @@
 //! The next word of a line as what it has to be.
 ghost use Rattle.std.specs.Prelude.{◌≡◌, IfOk, IfErr};
-ghost use Rattle.commands.specs.Fields.{AVerb, AName, AWho, AColour, AMark, ADirection, ANumber, ALength, APoint};
+ghost use Rattle.commands.specs.Fields.{AVerb, AName, AWho, AColour, AMark, ADirection, ANumber, ALength};
+ghost use Rattle.commands.specs.Fields.{APoint};
 ghost use Rattle.commands.specs.Reading.{first_column};
 ghost use Rattle.commands.specs.Taking.{IsTaken, IsWrong};
 
 use crate::BadText;
 use crate::letter::{read_colour, read_mark};
 use crate::number::{read_direction, read_length, read_within};
-use crate::verb::{Verb, read_verb};
+use crate::verb::read_verb;
 use crate::who::{Who, read_who};
 use crate::words::{Words, syntax};
-use dialogue::Name;
 use plane::{Point, read_point};
 use qroot2::{Dir, NumText};
 use sheet::{Colour, Mark};
+use vocabulary::{Name, Verb};
 
 /// How many lines are to come, and the column of the word that says so.
 #[derive(Clone, Copy)]

@@ -1,8 +1,11 @@
 //! How many bytes are written for replies.
-ghost use Rattle.std.specs.Prelude.{◌≡◌, ◌≤◌, ◌+◌, ◌^◌, ◌++◌, length};
+ghost use Rattle.std.specs.Prelude.{◌≡◌, ◌≤◌, ◌+◌, ◌^◌, length};
 ghost use Rattle.qroot2.specs.Text.{numeral};
-ghost use Rattle.commands.specs.ReplyText.{reply_text, refused_text, cause_text, shown_text, shown_line, imported_line, counted_line, numbered_line, why_word, why_end, verdict_end, report_end};
+ghost use Rattle.commands.specs.ReplyText.{reply_text, bad_text, refused_text, cause_text, shown_text};
+ghost use Rattle.commands.specs.ReplyText.{shown_line, imported_line, counted_line, numbered_line, why_word};
+ghost use Rattle.commands.specs.ReplyText.{why_end, verdict_end, report_end};
 
+use crate::BadText;
 use crate::cause::{cause_rest, cause_word};
 use crate::digits::{digits_len, line_feeds, point_len};
 use crate::written::total_len;
@@ -37,6 +40,17 @@ pub fn reply_len(reply: &Reply) -> u128
         }
         Reply::Refused(cause) => refusal_len(cause),
         Reply::KeeperFailed => 14,
+    }
+}
+
+/// How many bytes [`write_bad`](crate::write_bad) writes for a text that is no command. It takes no
+/// memory.
+pub fn bad_len(bad: &BadText) -> u128
+    ensures { result ≡ length (bad_text bad.now) }
+{
+    match bad {
+        BadText::Syntax { column } => numbered_len(b"syntax", *column),
+        BadText::Range { column } => numbered_len(b"range", *column),
     }
 }
 

@@ -5,6 +5,7 @@ mod ask;
 mod asked;
 mod bad;
 mod block;
+mod body;
 mod cause;
 mod digits;
 mod fields;
@@ -22,9 +23,9 @@ mod words;
 mod written;
 
 pub use bad::BadText;
+pub use body::{body_len, write_body};
 pub use laws::{reading_is_one, wanted_is_one};
-pub use length::reply_len;
-pub use number::read_number;
+pub use length::{bad_len, reply_len};
 pub use read::{lines_wanted, read_command};
 pub use reply::{write_bad, write_reply};
 

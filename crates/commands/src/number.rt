@@ -1,43 +1,15 @@
 //! Digit strings.
-ghost use Rattle.std.specs.Prelude.{◌≤◌, ◌↔◌, IsTrue, decimal};
+ghost use Rattle.std.specs.Prelude.{◌≤◌, decimal};
 ghost use Rattle.commands.specs.Fields.{Spells, ADirection, ANumber, ALength};
-ghost use Rattle.commands.specs.Taking.{IsPlain, ReadsOption};
+ghost use Rattle.commands.specs.Taking.{ReadsOption};
 
 use qroot2::Dir;
-use std::str;
 
 /// The number up to `most` that the bytes spell: a digit string with no leading zero but `0` itself.
-pub fn read_number(bytes: &[u8], most: u64) -> Option<u64>
+pub(crate) fn read_number(bytes: &[u8], most: u64) -> Option<u64>
     ensures { ReadsOption (Spells (λ n. n ≤ most) decimal) bytes.now result }
 {
-    match str::from_utf8(bytes) {
-        Ok(text) => parsed(text, most),
-        Err(_) => None,
-    }
-}
-
-/// The number up to `most` of which this is the text.
-fn parsed(text: &str, most: u64) -> Option<u64>
-    ensures { ReadsOption (Spells (λ n. n ≤ most) decimal) text.now result }
-{
-    if !is_plain(text.as_bytes()) {
-        return None;
-    }
-    match text.parse::<u64>() {
-        Ok(value) => { if value <= most { Some(value) } else { None } }
-        Err(_) => None,
-    }
-}
-
-/// Whether the bytes do not begin with `+` or with a needless zero, both of which `parse` takes.
-fn is_plain(bytes: &[u8]) -> bool
-    ensures { IsTrue result ↔ IsPlain bytes.now }
-{
-    match bytes {
-        [] => false,
-        [first] => *first != b'+',
-        [first, _, ..] => *first != b'+' && *first != b'0',
-    }
+    vocabulary::read_number(bytes, most)
 }
 
 /// The direction that the bytes spell by its number, from 0 to 15.

@@ -2,7 +2,9 @@
 ghost use Rattle.std.specs.Prelude.{◌≡◌, ◌++◌, codes, length};
 ghost use Rattle.ports.specs.Streams.{HasCause, Puts};
 ghost use Rattle.commands.specs.Blocks.{Adds};
-ghost use Rattle.commands.specs.ReplyText.{reply_text, bad_text, refused_text, cause_text, shown_text, shown_line, imported_line, vertex_lines, edge_lines, counted_line, numbered_line, fault_lines, name_lines, line_count};
+ghost use Rattle.commands.specs.ReplyText.{reply_text, bad_text, refused_text, cause_text, shown_text};
+ghost use Rattle.commands.specs.ReplyText.{shown_line, imported_line, vertex_lines, edge_lines, counted_line};
+ghost use Rattle.commands.specs.ReplyText.{numbered_line, fault_lines, name_lines, line_count};
 
 use crate::BadText;
 use crate::block::{Block, add, add_all};
@@ -10,11 +12,12 @@ use crate::cause::{cause_rest, cause_word};
 use crate::digits::{digits, line_feeds};
 use crate::report::add_vertex;
 use crate::written::add_each;
-use dialogue::{Cause, Name, Reply};
+use dialogue::{Cause, Reply};
 use itoa::Buffer;
 use judge::Fault;
 use ports::{Failed, Sink};
 use subdivide::Subdivision;
+use vocabulary::Name;
 
 /// Writes a reply. It takes no memory.
 ///

@@ -3,7 +3,7 @@
 use crate::{BadText, reply_len, write_bad, write_reply};
 use cpfile::{CpBad, CpWhy};
 use crimp::Run;
-use dialogue::{Cause, Name, Reply};
+use dialogue::{Cause, Reply};
 use edits::{EditBad, PointKind};
 use judge::{Fault, Report, Verdict, Why};
 use layers::{Order, Ray, Star};
@@ -15,6 +15,7 @@ use sheet::{Mark, Sheet};
 use std::alloc::Global;
 use std::test::Fail;
 use subdivide::{CutBad, scratch};
+use vocabulary::Name;
 
 /// Whether this is written for a reply, and is as long as the reply says.
 fn says(alloc: Global, reply: &Reply, text: &[u8]) -> Result<bool, Fail> {

@@ -2,7 +2,8 @@
 ghost use Rattle.std.specs.Prelude.{◌≡◌, ◌++◌, ◌∷◌, []};
 ghost use Rattle.ports.specs.Streams.{HasCause};
 ghost use Rattle.commands.specs.Blocks.{Adds};
-ghost use Rattle.commands.specs.ReplyText.{fault_line, fault_head, why_word as word_of, why_end, verdict_end, report_end, vertex_head};
+ghost use Rattle.commands.specs.ReplyText.{fault_line, fault_head, why_word as word_of, why_end, verdict_end};
+ghost use Rattle.commands.specs.ReplyText.{report_end, vertex_head};
 
 use crate::block::{Block, add, add_all};
 use crate::digits::{digits, point_len};

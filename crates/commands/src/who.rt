@@ -4,7 +4,8 @@ ghost use Rattle.commands.specs.Fields.{AWho};
 ghost use Rattle.commands.specs.Taking.{HasName, ReadsOption};
 
 use crate::number::read_number;
-use dialogue::{LAST_REV, Name};
+use dialogue::LAST_REV;
+use vocabulary::Name;
 
 /// The project of a change, and the rev that it has to have, where one is given.
 #[derive(Drop)]

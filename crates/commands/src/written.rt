@@ -6,12 +6,12 @@ ghost use Rattle.commands.specs.ReplyText.{vertex_line, edge_line, name_line, se
 
 use crate::block::{Block, add_all};
 use crate::digits::{digits, digits_len, kind_letter, mark_letter, point_len};
-use dialogue::Name;
 use itoa::Buffer;
 use layers::Ray;
 use plane::{Point, put_point};
 use ports::{Failed, Sink};
 use subdivide::Edge;
+use vocabulary::Name;
 
 /// What has a text.
 pub(crate) trait Written {

@@ -6,11 +6,12 @@ use Rattle.std.proofs.lemmas.List.Elements.{All-contains}
 use Rattle.exact.specs.Plane.{ExactPoint, ExactSegment, Before, SegmentBefore, IsPointCanonical}
 use Rattle.geometry.proofs.PointOrder.{before_not_back}
 use Rattle.sheet.specs.Pattern.{ExactCrease, ExactPattern}
-use Rattle.plane.proofs.Orders.{point_unique}
-use Rattle.chains.proofs.Sorted.{same_lists}
+use Rattle.plane.proofs.callers.Orders.{point_unique}
+use Rattle.chains.proofs.callers.Sorted.{same_lists}
 use Rattle.creases.specs.Creases.{Ascends}
 use Rattle.subdivide.specs.Subdivision.{IsVertex, AreVertices, Answer, CutOf, vertex_limit}
-use Rattle.subdivide.proofs.Range.{Stands, stands, some_crease}
+use Rattle.subdivide.proofs.callers.Range.{Stands, stands, some_crease}
+use Rattle.subdivide.proofs.callers.OneAnswer.{vertices_within}
 
 earlier : (pattern : ExactPattern) → Ascends pattern.creases → (s t : ExactSegment) (i j : ℕ)
     → Stands pattern i s → Stands pattern j t → i < j → SegmentBefore s t
@@ -49,24 +50,3 @@ first_pair_one pattern h s t u v a b = elim (one_or_before pattern h s u a.0.1 b
   ]
   | inr n ↦ elim n [ inl l ↦ absurd (b.1 s t a.0 (inl l)) | inr g ↦ absurd (a.1 u v b.0 (inl g)) ]
 ]
-
-vertices_within : (pattern : ExactPattern) (vs ws : List ExactPoint) → AreVertices pattern vs
-    → AreVertices pattern ws → (v : ExactPoint) → Contains vs v → Contains ws v
-vertices_within pattern vs ws a b v c =
-    let w = b.all v (All-contains (IsVertex pattern) vs v a.each c) in
-    let held = All-contains IsPointCanonical vs v a.canonical c in
-    let other = All-contains IsPointCanonical ws w.0 b.canonical w.1 in
-    subst (Contains ws) (sym (point_unique v w.0 held other w.2)) w.1
-
-vertices_one : (pattern : ExactPattern) (vs ws : List ExactPoint) → AreVertices pattern vs
-    → AreVertices pattern ws → vs ≡ ws
-vertices_one pattern vs ws a b =
-    same_lists Before before_not_back vs ws a.ordered b.ordered (vertices_within pattern vs ws a b)
-    (vertices_within pattern ws vs b a)
-
--- no pattern has both too many vertices and no more than may be
-pub not_few_and_many : (pattern : ExactPattern) (vs ws : List ExactPoint) → AreVertices pattern vs
-    → AreVertices pattern ws → vertex_limit < length vs → length ws ≤ vertex_limit → ⊥
-not_few_and_many pattern vs ws a b many few =
-    let e = ap length (vertices_one pattern vs ws a b) in
-    omega (arith, many, few, e)

@@ -106,6 +106,8 @@ ends Due bytes left held now status.WriteFault e l a = ((e, l), a)
 ends Due bytes left held now status.NoMemory e l a = (omega arith, a)
 ends Due bytes left held now status.Usage e l a = absurd a
 ends Due bytes left held now status.ReadFault e l a = absurd a
+ends Due bytes left held now status.KeeperFault e l a = absurd a
+ends Due bytes left held now status.DoorFault e l a = absurd a
 ends Due bytes left held now status.TooLong e l a = absurd a
 
 -- what a call that may find no memory gives, told otherwise

@@ -6,9 +6,8 @@ pub mod Answered
 pub mod UnitEnds
 pub mod Feeding
 pub mod Lasting
+pub mod ToldPath
 pub mod SoFar
-pub mod SettingLists
-pub mod AskedWords
 pub mod Pieces
 pub mod Stepping
 pub mod Rounds
@@ -16,5 +15,12 @@ pub mod OneFaults
 pub mod Ascending
 pub mod CutOnce
 pub mod OneCheckText
-pub mod OneWords
 pub mod OneUnits
+pub mod TwoPuts
+pub mod KnownStatuses
+pub mod Laters
+pub mod OneConnection
+pub mod HandingOut
+pub mod SomeServed
+pub mod FewTurns
+pub mod Meaning

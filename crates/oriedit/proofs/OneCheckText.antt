@@ -22,7 +22,8 @@ use Rattle.oriedit.specs.CheckText.{JudgedText, FaultsText, DrawnText, LinesText
 use Rattle.oriedit.specs.declared.status.Status.{Status}
 use Rattle.oriedit.proofs.OneFaults.{faults_one}
 use Rattle.oriedit.proofs.Ascending.{none_ascend, drawn_ascend}
-use Rattle.oriedit.proofs.CutOnce.{first_pair_one, not_few_and_many}
+use Rattle.oriedit.proofs.CutOnce.{first_pair_one}
+use Rattle.subdivide.proofs.callers.OneAnswer.{too_many}
 
 abbrev pub HasOneReading : Type 0
 HasOneReading = (l : Measures) → (sheet : ExactSheet) → (bytes : List ℕ) → (read other : Result CpLines CpBad)
@@ -52,10 +53,10 @@ judged_same pattern h Answer.TooManyVertices (Answer.CrossRange u v) m n text ot
 judged_same pattern h Answer.TooManyVertices Answer.TooManyVertices m n text other p q a b =
     (a.0 ∙ sym b.0, a.1 ∙ sym b.1)
 judged_same pattern h Answer.TooManyVertices (Answer.Cut vs es) m n text other p q a b =
-    absurd (not_few_and_many pattern p.1.0 vs p.1.1 q.1 p.1.2 q.2)
+    absurd (too_many pattern p.1.0 vs p.1.1 q.1 p.1.2 q.2)
 judged_same pattern h (Answer.Cut vs es) (Answer.CrossRange u v) m n text other p q a b = absurd (p.0 u v q.0)
 judged_same pattern h (Answer.Cut vs es) Answer.TooManyVertices m n text other p q a b =
-    absurd (not_few_and_many pattern q.1.0 vs q.1.1 p.1 q.1.2 p.2)
+    absurd (too_many pattern q.1.0 vs q.1.1 p.1 q.1.2 p.2)
 judged_same pattern h (Answer.Cut vs es) (Answer.Cut ws fs) m n text other p q a b =
     let e = faults_one pattern a.0 b.0 a.1 b.1 in
     (a.2 ∙ ap faults_status e ∙ sym b.2, a.3 ∙ ap (λ x. reply_text (reply.Faults 0 x)) e ∙ sym b.3)

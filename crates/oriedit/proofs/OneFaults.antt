@@ -5,8 +5,8 @@ use Rattle.std.proofs.lemmas.List.Elements.{All-contains}
 use Rattle.exact.specs.Plane.{Before, IsPointCanonical}
 use Rattle.geometry.proofs.PointOrder.{before_not_back}
 use Rattle.sheet.specs.Pattern.{ExactPattern}
-use Rattle.plane.proofs.Orders.{point_unique}
-use Rattle.chains.proofs.Sorted.{same_lists}
+use Rattle.plane.proofs.callers.Orders.{point_unique}
+use Rattle.chains.proofs.callers.Sorted.{same_lists}
 use Rattle.judge.specs.Faults.{IsFault, AreFaults}
 use Rattle.judge.specs.declared.fault.Fault.{Fault}
 

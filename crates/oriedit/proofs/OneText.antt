@@ -1,9 +1,9 @@
 -- One text is due for each input.
 use Rattle.std.proofs.Common.{◌≡◌, ℕ, List, ap, subst, sym, ◌∙◌, inl, inr}
 use Rattle.sheet.specs.Pattern.{ExactPattern, IsPattern}
-use Rattle.pattern.proofs.OneText.{one_pattern}
-use Rattle.pattern.proofs.OneRefusal.{not_refused, one_refusal}
-use Rattle.subdivide.proofs.OneAnswer.{one_answer}
+use Rattle.pattern.proofs.callers.OneText.{one_pattern}
+use Rattle.pattern.proofs.callers.OneRefusal.{not_refused, one_refusal}
+use Rattle.subdivide.proofs.callers.OneAnswer.{one_answer}
 use Rattle.commands.specs.ReplyText.{refused_text}
 use Rattle.oriedit.specs.ReplyText.{bad_cause}
 use Rattle.oriedit.specs.CutText.{CutText, PatternText, answer_text, answer_status}

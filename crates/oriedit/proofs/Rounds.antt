@@ -236,21 +236,3 @@ summarized_all seed count t last text old new C h e = record {
     text_is = rw (e, h.tally_is, h.creases, h.sizes, h.faults) refl;
   };
 }
-
--- the sink has no part in what is done
-pub done_beside : (seed count f g : ℕ) (x y a b : Option (List ℕ)) (t u : Option Tables) (C : Type 0) (text : List ℕ) → IsGenerated seed count (works x t f) C (works y u g) text → IsGenerated seed count (works a t f) C (works b u g) text
-done_beside seed count f g x y a b t u C text h = record {
-  asks = h.asks;
-  rs = h.rs;
-  all = h.all;
-  replied = record { each = h.replied.each; told = h.replied.told; counted = h.replied.counted };
-  is_summary = h.is_summary;
-}
-
-pub begun_beside : (seed count f g : ℕ) (x y a b : Option (List ℕ)) (t u : Option Tables) (C : Type 0) → IsBegun seed count (works x t f) C (works y u g) → IsBegun seed count (works a t f) C (works b u g)
-begun_beside seed count f g x y a b t u C h = record {
-  asks = h.asks;
-  rs = h.rs;
-  some = h.some;
-  replied = record { each = h.replied.each; told = h.replied.told; counted = h.replied.counted };
-}

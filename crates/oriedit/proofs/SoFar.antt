@@ -136,6 +136,8 @@ ended_whole was left line taken old now new C D status.NoMemory f l z r a = (
 ended_whole was left line taken old now new C D status.FaultsFound f l z r a = absurd a
 ended_whole was left line taken old now new C D status.Usage f l z r a = absurd a
 ended_whole was left line taken old now new C D status.ReadFault f l z r a = absurd a
+ended_whole was left line taken old now new C D status.KeeperFault f l z r a = absurd a
+ended_whole was left line taken old now new C D status.DoorFault f l z r a = absurd a
 ended_whole was left line taken old now new C D status.TooLong f l z r a = absurd a
 ended_whole was left line taken old now new C D status.Refused f l z r a = absurd a
 

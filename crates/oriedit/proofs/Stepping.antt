@@ -87,16 +87,6 @@ one_replied a r old new before after clean t w = record {
   counted = subst (RoseBy before after) (omega arith) (fails_counted r before after w.later (λ e. w.failed (ap Ok e)));
 }
 
--- some of the first of more commands
-pub part_first : (old new : Works) (C : Type 0) (asks bs : List Asked) → ArePartly old C new asks → ArePartly old C new (asks ++ bs)
-part_first old new C asks bs p = record {
-  some = p.some;
-  later = p.later ++ bs;
-  all = ap (λ t. t ++ bs) p.all ∙ append_assoc p.some p.later bs;
-  rs = p.rs;
-  replied = p.replied;
-}
-
 pub part_more : (old mid new : Works) (C D : Type 0) → (D → C) → (asks bs : List Asked) (rs : List Reply) → AreReplied old C mid asks rs → ArePartly mid D new bs → ArePartly old D new (asks ++ bs)
 part_more old mid new C D f asks bs rs r p = record {
   some = asks ++ p.some;
@@ -154,15 +144,6 @@ counted_more old mid new C D f asks more t u v p q = record {
   tally = q.tally ∙ ap (λ x. plus x (totals more q.rs)) p.tally ∙ plus_more t (totals asks p.rs) (totals more q.rs)
       ∙ ap (plus t) (sym (totals_more asks more p.rs q.rs p.replied.each));
 }
-
-question_none : (k : ℕ) → k ≢ 0 → question k ≡ []
-question_none zero n = absurd (n refl)
-question_none (suc k) n = refl
-
--- a turn with no question behind it
-pub counted_turn : (k : ℕ) (turn : Asked) (r : Reply) (t : Tally) (old new : Works) (clean : Type 0) (next : Tally) → k ≢ 0
-    → AreReplied old clean new (turn ∷ []) (r ∷ []) → next ≡ plus t (counted_as turn.kind r) → AreCounted old clean new (turn ∷ question k) t next
-counted_turn k turn r t old new clean next n h e = subst (λ q. AreCounted old clean new (turn ∷ q) t next) (sym (question_none k n)) (counted_one turn r t old new clean next h e)
 
 -- and with one
 pub counted_question : (k : ℕ) (turn : Asked) (r : Reply) (t u : Tally) (old mid new : Works) (C D : Type 0) (result : Result Tally NoMemory) → (D → C) → k ≡ 0

@@ -6,7 +6,7 @@ use Rattle.std.specs.List.{concat}
 use Rattle.std.proofs.lemmas.List.{take-append-le, take_all}
 use Rattle.std.proofs.lemmas.List.Elements.{All-nil, All-cons, All-head, All-tail, All-append, Contains-append_cases, Contains-append_right}
 use Rattle.lines.specs.Lines.{IsLine}
-use Rattle.lines.proofs.callers.Elements.{head_has, has_none}
+use Rattle.chains.proofs.callers.Elements.{head_has, has_none}
 use Rattle.lines.proofs.callers.Lines.{one_cut}
 use Rattle.commands.specs.Lines.{IsWanted}
 use Rattle.oriedit.specs.Units.{IsUnit, HasNoUnit}
@@ -121,11 +121,6 @@ pub line_ended : (old new end : List ℕ) (m n : ℕ) → (m ≡ 0 → IsWanted 
     → EndsLine new n (nat_eq n 0)
 line_ended old new end m n f g u l e =
     ends_line new n (nat_eq n 0) (ended old new end m n f g u l e) (is_none n) (is_some n)
-
-pub some_byte : (new old end : List ℕ) → IsLine end → new ≡ old ++ end → 0 < length new
-some_byte new old end l e =
-    let a : length new ≡ length old + (length l.line + 1) = ap length (e ∙ ap (λ t. old ++ t) l.ends) ∙ simp length-append refl in
-    omega arith
 
 -- bytes without a line feed are kept
 lacks_more : (old rest : List ℕ) (n : ℕ) → Lacks old n → ¬ Contains rest 10 → Lacks (old ++ rest) n

@@ -26,10 +26,12 @@ pub record WritesWhereRose (before now : ℕ) (result : Result Unit Early) : Typ
 -- over each list of entries for which the tables stand the command is replied with this text
 abbrev pub ReplyTables : Tables → Command → List ℕ → ℕ → Tables → Type 0
 ReplyTables before c text fails after =
-    (entries : Entries) → StandFor before entries → (next : Entries) × StandFor after next × Replied entries c text fails next
+    (entries : Entries) → StandFor before entries → (next : Entries) × StandFor after next
+    × Replied entries c text fails next
 
 -- a command was done; its text was written, or a front of it
-pub record IsReplied (c : Command) (old : Works) (clean : Type 0) (new : Works) (text written : List ℕ) : Type 0 where
+pub record IsReplied (c : Command) (old : Works) (clean : Type 0) (new : Works)
+    (text written : List ℕ) : Type 0 where
   pub fails : ℕ
   pub told : KeepsTelling old.tables clean new.tables (λ before after. ReplyTables before c text fails after)
   pub counted : RoseBy old.faults new.faults fails

@@ -4,7 +4,8 @@ use Rattle.dialogue.specs.declared.command.Command.{Command}
 use Rattle.dialogue.specs.declared.reply.Reply.{Reply}
 use Rattle.oriedit.specs.Script.{Works}
 use Rattle.oriedit.specs.Summary.{nothing, plus, creases_told, sizes_told, faults_told}
-use Rattle.oriedit.specs.Generating.{Asked, AreTurns, with_questions, closing, AreReplied, totals, IsGenerated, IsBegun, AreAll}
+use Rattle.oriedit.specs.Generating.{Asked, AreTurns, with_questions, closing, AreReplied, totals}
+use Rattle.oriedit.specs.Generating.{IsGenerated, IsBegun, AreAll}
 use Rattle.oriedit.specs.declared.summary.Last.{Last}
 use Rattle.oriedit.specs.declared.tally.Tally.{Tally}
 
@@ -29,13 +30,15 @@ pub record IsQuestionMore (t next : Tally) : Type 0 where
   pub seen : next.seen ≤ t.seen + 2 ^ 64
 
 -- one command was done, and its reply tells this, or none was
-abbrev pub Learns : {A E : Type 0} → (Reply → A → Type 0) → Works → Type 0 → Works → Asked → Result A E → Type 0
+abbrev pub Learns : {A E : Type 0} → (Reply → A → Type 0) → Works → Type 0 → Works → Asked → Result A E
+    → Type 0
 Learns Tells old clean new ask (Ok told) =
     (r : Reply) × AreReplied old clean new (ask ∷ []) (r ∷ []) × Tells r told
 Learns Tells old clean new ask (Err e) = AreReplied old clean new [] []
 
 -- the commands were done, and their replies are added to a tally
-pub record AreCounted (old : Works) (clean : Type 0) (new : Works) (asks : List Asked) (before after : Tally) : Type 0 where
+pub record AreCounted (old : Works) (clean : Type 0) (new : Works) (asks : List Asked)
+    (before after : Tally) : Type 0 where
   pub rs : List Reply
   pub replied : AreReplied old clean new asks rs
   pub tally : after ≡ plus before (totals asks rs)
@@ -53,7 +56,8 @@ Counts old clean new asks before (Ok after) = AreCounted old clean new asks befo
 Counts old clean new asks before (Err e) = ArePartly old clean new asks
 
 -- so many turns were done, and this is their tally
-pub record IsTallied (seed count state : ℕ) (old : Works) (clean : Type 0) (new : Works) (tally : Tally) : Type 0 where
+pub record IsTallied (seed count state : ℕ) (old : Works) (clean : Type 0) (new : Works)
+    (tally : Tally) : Type 0 where
   pub turns : List Command
   pub are : AreTurns seed turns state
   pub many : length turns ≡ count
@@ -86,7 +90,8 @@ Closes old clean new (Ok last) = IsClosed old clean new last
 Closes old clean new (Err e) = ArePartly old clean new closing
 
 -- all was done, and this is its tally and what its last replies tell
-pub record IsAnswered (seed count : ℕ) (old : Works) (clean : Type 0) (new : Works) (tally : Tally) (last : Last) : Type 0 where
+pub record IsAnswered (seed count : ℕ) (old : Works) (clean : Type 0) (new : Works) (tally : Tally)
+    (last : Last) : Type 0 where
   pub asks : List Asked
   pub rs : List Reply
   pub all : AreAll seed count asks

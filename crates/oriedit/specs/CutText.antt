@@ -31,8 +31,10 @@ abbrev pub PatternText : ExactPattern → Status → List ℕ → Type 0
 PatternText pattern s text =
     (answer : Answer) × CutOf pattern answer × (s ≡ answer_status answer) × (text ≡ answer_text answer)
 
--- what is due for the bytes of the input: the answer of cutting where they are the text of a pattern, and else their refusal
+-- what is due for the bytes of the input: the answer of cutting where they are the text of a
+-- pattern, and else their refusal
 abbrev pub CutText : List ℕ → Status → List ℕ → Type 0
 CutText bytes s text =
     ((pattern : ExactPattern) × IsRead bytes pattern × PatternText pattern s text)
-    ⊎ ((bad : PatternBad) × IsRefused bytes bad × (s ≡ status.Refused) × (text ≡ refused_text (bad_cause bad)))
+    ⊎ ((bad : PatternBad) × IsRefused bytes bad × (s ≡ status.Refused)
+    × (text ≡ refused_text (bad_cause bad)))

@@ -11,7 +11,8 @@ use Rattle.projects.specs.Machine.{StepOrFault}
 use Rattle.oriedit.specs.Outputs.{Gained, GainedFront}
 use Rattle.oriedit.specs.Turns.{failures}
 use Rattle.oriedit.specs.Script.{Works, KeepsTelling, RoseBy}
-use Rattle.oriedit.specs.Summary.{nothing, plus, of_turn, of_question, creases_told, sizes_told, faults_told, final_line, summary}
+use Rattle.oriedit.specs.Summary.{nothing, plus, of_turn, of_question, creases_told, sizes_told, faults_told}
+use Rattle.oriedit.specs.Summary.{final_line, summary}
 use Rattle.oriedit.specs.declared.tally.Tally.{Tally}
 use Rattle.oriedit.specs.declared.status.Status.{Status}
 use Rattle.oriedit.specs.declared.status.Status.TheVariants as status
@@ -77,7 +78,8 @@ all_failures [] = 0
 all_failures (r ∷ rs) = failures r + all_failures rs
 
 -- the commands were done, with these replies
-pub record AreReplied (old : Works) (clean : Type 0) (new : Works) (asks : List Asked) (rs : List Reply) : Type 0 where
+pub record AreReplied (old : Works) (clean : Type 0) (new : Works) (asks : List Asked)
+    (rs : List Reply) : Type 0 where
   pub each : length rs ≡ length asks
   pub told : KeepsTelling old.tables clean new.tables (λ before after. StepTables before asks rs after)
   pub counted : RoseBy old.faults new.faults (all_failures rs)
@@ -123,7 +125,8 @@ pub record IsSummary (seed count : ℕ) (asks : List Asked) (rs : List Reply) (t
       (final_line (creases_told pattern) (sizes_told shown) (faults_told listed))
 
 -- all was done, and this is the summary
-pub record IsGenerated (seed count : ℕ) (old : Works) (clean : Type 0) (new : Works) (text : List ℕ) : Type 0 where
+pub record IsGenerated (seed count : ℕ) (old : Works) (clean : Type 0) (new : Works)
+    (text : List ℕ) : Type 0 where
   pub asks : List Asked
   pub rs : List Reply
   pub all : AreAll seed count asks
@@ -147,5 +150,7 @@ Generates seed count old clean new status.NoMemory = IsBegun seed count old clea
 Generates seed count old clean new status.FaultsFound = ⊥
 Generates seed count old clean new status.Usage = ⊥
 Generates seed count old clean new status.ReadFault = ⊥
+Generates seed count old clean new status.KeeperFault = ⊥
+Generates seed count old clean new status.DoorFault = ⊥
 Generates seed count old clean new status.TooLong = ⊥
 Generates seed count old clean new status.Refused = ⊥

@@ -12,5 +12,7 @@ AnswersLast rest old clean new status.NoMemory = AreAnswered old clean new []
 AnswersLast rest old clean new status.FaultsFound = ⊥
 AnswersLast rest old clean new status.Usage = ⊥
 AnswersLast rest old clean new status.ReadFault = ⊥
+AnswersLast rest old clean new status.KeeperFault = ⊥
+AnswersLast rest old clean new status.DoorFault = ⊥
 AnswersLast rest old clean new status.TooLong = ⊥
 AnswersLast rest old clean new status.Refused = ⊥

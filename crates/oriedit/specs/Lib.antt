@@ -1,7 +1,4 @@
 pub mod StatusNumber
-pub mod Settings
-pub mod FirstSetting
-pub mod Words
 pub mod Reading
 pub mod ReplyText
 pub mod CutText
@@ -17,4 +14,9 @@ pub mod Lasting
 pub mod Summary
 pub mod Generating
 pub mod Counting
+pub mod HttpAnswers
+pub mod Connections
+pub mod Serving
+pub mod Outside
+pub mod Attaching
 pub mod Run

@@ -2,10 +2,10 @@
 use Rattle.std.specs.Prelude.{◌≡◌, ℕ, ◌≤◌, ◌<◌, ◌^◌, ◌⊎◌, List, length, Option}
 use Rattle.oriedit.specs.Reading.{Gave, IsSpent}
 use Rattle.oriedit.specs.Outputs.{Gained, GainedFront}
-use Rattle.oriedit.specs.Words.{Asks, usage_text}
-use Rattle.oriedit.specs.Script.{Works, ScriptRuns}
-use Rattle.oriedit.specs.declared.asking.Ask.{Ask}
-use Rattle.oriedit.specs.declared.asking.Ask.TheVariants as ask
+use Rattle.words.specs.Words.{Asks, usage_text}
+use Rattle.words.specs.Tasks.{Task}
+use Rattle.oriedit.specs.Outside.{Outside, LeavesSource, LeavesKeeper}
+use Rattle.oriedit.specs.Attaching.{Attached, Scripts, Serves}
 use Rattle.oriedit.specs.CutText.{CutText}
 use Rattle.oriedit.specs.CheckText.{CheckText}
 use Rattle.oriedit.specs.Generating.{Generates}
@@ -34,6 +34,8 @@ Answers Due bytes held now status.WriteFault =
 Answers Due bytes held now status.NoMemory = now ≡ held
 Answers Due bytes held now status.Usage = ⊥
 Answers Due bytes held now status.ReadFault = ⊥
+Answers Due bytes held now status.KeeperFault = ⊥
+Answers Due bytes held now status.DoorFault = ⊥
 Answers Due bytes held now status.TooLong = ⊥
 
 -- the whole input was read, and is below the limit of 2 ^ 24 bytes
@@ -52,31 +54,49 @@ Ends Due bytes left held now status.NoMemory = (length bytes ≤ 2 ^ 24) × (now
 Ends Due bytes left held now status.ReadFault = (length bytes < 2 ^ 24) × (now ≡ held)
 Ends Due bytes left held now status.TooLong = (length bytes ≡ 2 ^ 24) × (now ≡ held)
 Ends Due bytes left held now status.Usage = ⊥
+Ends Due bytes left held now status.KeeperFault = ⊥
+Ends Due bytes left held now status.DoorFault = ⊥
 
--- what keeps the projects was not touched
-pub record Keeps (old new : Works) : Type 0 where
-  pub tables : new.tables ≡ old.tables
-  pub faults : new.faults ≡ old.faults
-
--- A run of a command that answers its whole input. A source that tells had the taken bytes at its front and has
--- what stood behind them.
+-- A run of a command that answers its whole input. A source that tells had the taken bytes at its
+-- front and has what stood behind them.
 abbrev pub InputRuns : Dues → Option (List ℕ) → Option (List ℕ) → Option (List ℕ) → Option (List ℕ) → Status
     → Type 0
 InputRuns Due was left held now s = (bytes : List ℕ) × Gave was left bytes × Ends Due bytes left held now s
 
--- A run with words that are not in the grammar. Nothing is taken.
-abbrev pub UsageRuns : Option (List ℕ) → Option (List ℕ) → Option (List ℕ) → Option (List ℕ) → Status → Type 0
-UsageRuns was left held now s = (left ≡ was) × WritesDue held now usage_text status.Usage s
+-- A run with words that are not in the grammar.
+abbrev pub UsageRuns : Outside → Outside → Status → Type 0
+UsageRuns old new s =
+    WritesDue old.works.held new.works.held usage_text status.Usage s × LeavesSource old new
+    × LeavesKeeper old new
+    × (new.door ≡ old.door)
 
--- What each command is: from which source and which works to which, and with which status.
-abbrev pub Means : Ask → Option (List ℕ) → Option (List ℕ) → Works → Type 0 → Works → Status → Type 0
-Means ask.Usage was left old clean new s = UsageRuns was left old.held new.held s × Keeps old new
-Means ask.Cut was left old clean new s = InputRuns CutText was left old.held new.held s × Keeps old new
-Means (ask.Check lattice sheet) was left old clean new s =
-    InputRuns (CheckText lattice sheet) was left old.held new.held s × Keeps old new
-Means ask.Script was left old clean new s = ScriptRuns was left old clean new s
-Means (ask.Generate seed count) was left old clean new s = (left ≡ was) × Generates seed count old clean new s
+-- What each command is: from which outside to which, and with which status.
+abbrev pub Means : Task → Outside → Type 0 → Outside → Status → Type 0
+Means Task.Usage old clean new s = UsageRuns old new s
+Means Task.Cut old clean new s =
+    InputRuns CutText old.left new.left old.works.held new.works.held s × LeavesKeeper old new
+    × (new.door ≡ old.door)
+Means (Task.Check lattice sheet) old clean new s =
+    InputRuns (CheckText lattice sheet) old.left new.left old.works.held new.works.held s
+    × LeavesKeeper old new
+    × (new.door ≡ old.door)
+Means (Task.Script keep) old clean new s = Attached keep (Scripts clean) old clean new s
+Means (Task.Generate seed count) old clean new s =
+    Generates seed count old.works clean new.works s × LeavesSource old new × (new.path ≡ old.path)
+    × (new.door ≡ old.door)
+Means (Task.Serve port connections keep) old clean new s = Attached keep
+    (Serves port connections clean) old clean new s
 
--- a run of the program: what its words ask for
-abbrev pub Runs : List (List ℕ) → Option (List ℕ) → Option (List ℕ) → Works → Type 0 → Works → Status → Type 0
-Runs words was left old clean new s = (a : Ask) × Asks words a × Means a was left old clean new s
+-- how many turns of the generator a task asks for
+abbrev pub turns_of : Task → ℕ
+turns_of Task.Usage = 0
+turns_of Task.Cut = 0
+turns_of (Task.Check lattice sheet) = 0
+turns_of (Task.Script keep) = 0
+turns_of (Task.Generate seed count) = count
+turns_of (Task.Serve port connections keep) = 0
+
+-- A run of the program: what its words ask for. Where there is no memory to read them, nothing is done.
+abbrev pub Runs : List (List ℕ) → Outside → Type 0 → Outside → Status → Type 0
+Runs words old clean new s =
+    ((t : Task) × Asks words t × Means t old clean new s) ⊎ ((s ≡ status.NoMemory) × (new ≡ old))

@@ -1,5 +1,6 @@
 -- A run of a script: what it takes from its source, what it does, what it writes, and how it ends.
-use Rattle.std.specs.Prelude.{◌≡◌, ℕ, ◌+◌, ◌-◌, ◌≤◌, ◌<◌, ◌^◌, ◌⊎◌, min, List, [], ◌∷◌, ◌++◌, length, Option, Some}
+use Rattle.std.specs.Prelude.{◌≡◌, ℕ, ◌+◌, ◌-◌, ◌≤◌, ◌<◌, ◌^◌, ◌⊎◌, min, List, [], ◌∷◌, ◌++◌, length, Option}
+use Rattle.std.specs.Prelude.{Some}
 use Rattle.std.specs.List.{concat}
 use Rattle.ports.specs.Streams.{IsFront}
 use Rattle.projects.specs.Tables.{Tables, IsTables}
@@ -10,7 +11,8 @@ use Rattle.oriedit.specs.Turns.{TurnTables}
 use Rattle.oriedit.specs.declared.status.Status.{Status}
 use Rattle.oriedit.specs.declared.status.Status.TheVariants as status
 
--- What a script works on: what its sink holds, and the tables and the count of faults of what keeps the projects.
+-- What a script works on: what its sink holds, and the tables and the count of faults of what keeps
+-- the projects.
 pub record Works : Type 0 where
   pub held : Option (List ℕ)
   pub tables : Option Tables
@@ -20,7 +22,8 @@ abbrev pub works : Option (List ℕ) → Option Tables → ℕ → Works
 works held tables faults = record { held = held; tables = tables; faults = faults }
 
 -- tables that are told before and after, of which this holds
-pub record StayTold (before after : Tables) (new : Option Tables) (Holds : Tables → Tables → Type 0) : Type 0 where
+pub record StayTold (before after : Tables) (new : Option Tables)
+    (Holds : Tables → Tables → Type 0) : Type 0 where
   pub told : new ≡ Some after
   pub tables : IsTables before → IsTables after
   pub holds : Holds before after
@@ -35,8 +38,10 @@ abbrev pub RoseBy : ℕ → ℕ → ℕ → Type 0
 RoseBy before now n = min (before + n) (2 ^ 64 - 1) ≤ now
 
 -- units were done, with these texts, so many of which say that what keeps the projects failed
-pub record AreDone (old : Works) (clean : Type 0) (new : Works) (units texts : List (List ℕ)) (fails : ℕ) : Type 0 where
-  pub told : KeepsTelling old.tables clean new.tables (λ before after. TurnTables before units texts fails after)
+pub record AreDone (old : Works) (clean : Type 0) (new : Works) (units texts : List (List ℕ))
+    (fails : ℕ) : Type 0 where
+  pub told : KeepsTelling old.tables clean new.tables
+      (λ before after. TurnTables before units texts fails after)
   pub counted : RoseBy old.faults new.faults fails
 
 -- units were done, and their texts were written and nothing else
@@ -93,6 +98,8 @@ ScriptEnds bytes left old clean new status.NoMemory =
     (length bytes ≤ 2 ^ 28) × DoesSome bytes (AreAnswered old clean new)
 ScriptEnds bytes left old clean new status.FaultsFound = ⊥
 ScriptEnds bytes left old clean new status.Usage = ⊥
+ScriptEnds bytes left old clean new status.KeeperFault = ⊥
+ScriptEnds bytes left old clean new status.DoorFault = ⊥
 ScriptEnds bytes left old clean new status.Refused = ⊥
 
 -- A run of a script. A source that tells had the taken bytes at its front and has what stood behind them.

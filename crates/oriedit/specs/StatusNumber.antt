@@ -10,5 +10,7 @@ number_of status.Usage = 2
 number_of status.ReadFault = 3
 number_of status.WriteFault = 4
 number_of status.NoMemory = 5
+number_of status.KeeperFault = 6
+number_of status.DoorFault = 7
 number_of status.TooLong = 8
 number_of status.Refused = 10

@@ -1,5 +1,6 @@
 -- The summary of a run of a generator, from the replies.
-use Rattle.std.specs.Prelude.{ℕ, ◌+◌, ◌-◌, ◌==◌, List, ◌∷◌, [], ◌++◌, Option, Some, None, length, count_by, codes, decimal}
+use Rattle.std.specs.Prelude.{ℕ, ◌+◌, ◌-◌, ◌==◌, List, ◌∷◌, [], ◌++◌, Option, Some, None, length, count_by}
+use Rattle.std.specs.Prelude.{codes, decimal}
 use Rattle.dialogue.specs.declared.reply.Reply.{Reply}
 use Rattle.dialogue.specs.declared.reply.Reply.TheVariants as reply
 use Rattle.oriedit.specs.Turns.{failures}

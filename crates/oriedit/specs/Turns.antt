@@ -23,13 +23,15 @@ failures (reply.Refused why) = 0
 failures reply.KeeperFailed = 1
 
 -- a command makes a step, or what keeps the projects fails; the reply is written
-pub record Replied (before : Entries) (c : Command) (text : List ℕ) (fails : ℕ) (after : Entries) : Type 0 where
+pub record Replied (before : Entries) (c : Command) (text : List ℕ) (fails : ℕ)
+    (after : Entries) : Type 0 where
   pub reply : Reply
   pub step : StepOrFault before c reply after
   pub text_is : text ≡ reply_text reply
   pub fails_is : fails ≡ failures reply
 
--- the same for what a unit is read as: a blank line or a comment gets no text, a wrong one is told, and both change nothing
+-- the same for what a unit is read as: a blank line or a comment gets no text, a wrong one is told,
+-- and both change nothing
 abbrev pub TurnOf : Entries → Result (Option Command) BadText → List ℕ → ℕ → Entries → Type 0
 TurnOf before (Ok None) text fails after = (text ≡ []) × (fails ≡ 0) × (after ≡ before)
 TurnOf before (Ok (Some c)) text fails after = Replied before c text fails after
@@ -46,10 +48,12 @@ Turns before [] [] fails after = (fails ≡ 0) × (after ≡ before)
 Turns before [] (text ∷ texts) fails after = ⊥
 Turns before (unit ∷ units) [] fails after = ⊥
 Turns before (unit ∷ units) (text ∷ texts) fails after =
-    (mid : Entries) × (first : ℕ) × (rest : ℕ) × Turn before unit text first mid × Turns mid units texts rest after
+    (mid : Entries) × (first : ℕ) × (rest : ℕ) × Turn before unit text first mid
+    × Turns mid units texts rest after
     × (fails ≡ first + rest)
 
 -- the same over tables: over each list of entries for which they stand
 abbrev pub TurnTables : Tables → List (List ℕ) → List (List ℕ) → ℕ → Tables → Type 0
 TurnTables before units texts fails after =
-    (entries : Entries) → StandFor before entries → (next : Entries) × StandFor after next × Turns entries units texts fails next
+    (entries : Entries) → StandFor before entries → (next : Entries) × StandFor after next
+    × Turns entries units texts fails next

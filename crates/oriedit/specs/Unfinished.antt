@@ -1,5 +1,6 @@
 -- A unit of a script of which not all was taken yet.
-use Rattle.std.specs.Prelude.{◌≡◌, ℕ, zero, suc, ◌+◌, Bool, true, false, List, [], ◌∷◌, ◌++◌, All, Contains, length}
+use Rattle.std.specs.Prelude.{◌≡◌, ℕ, zero, suc, ◌+◌, Bool, true, false, List, [], ◌∷◌, ◌++◌, All, Contains}
+use Rattle.std.specs.Prelude.{length}
 use Rattle.std.specs.List.{concat}
 use Rattle.lines.specs.Lines.{IsLine}
 use Rattle.commands.specs.Lines.{IsWanted}

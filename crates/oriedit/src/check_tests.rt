@@ -1,6 +1,6 @@
 //! Runs of `check` over streams in memory.
 use crate::{Status, run};
-use ports::{MemSink, MemSource};
+use ports::{MemDoor, MemSink, MemSource};
 use projects::MemKeeper;
 use std::alloc::Global;
 use std::test::Fail;
@@ -22,7 +22,15 @@ fn check_of(
     let mut source = MemSource::new(input.to_vec(alloc)?, 4096, broken);
     let mut sink = MemSink::new(Vec::with_capacity(alloc, 1000)?, 1000, full);
     let mut keeper = MemKeeper::new(alloc, Vec::new(alloc), Vec::new(alloc));
-    let status = run(alloc, &words, &mut source, &mut sink, &mut keeper);
+    let mut door = MemDoor::new(Vec::new(alloc), Vec::new(alloc));
+    let status = run(
+        alloc,
+        &words,
+        &mut source,
+        &mut sink,
+        &mut keeper,
+        &mut door,
+    );
     Ok((status, sink))
 }
 

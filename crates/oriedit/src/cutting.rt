@@ -1,7 +1,7 @@
 //! What `cut` writes for its input, and what other words write.
 ghost use Rattle.std.specs.Prelude.{◌≡◌, ◌≤◌, IfOk};
 ghost use Rattle.ports.specs.Streams.{Rose};
-ghost use Rattle.oriedit.specs.Words.{usage_text};
+ghost use Rattle.words.specs.Words.{usage_text};
 ghost use Rattle.oriedit.specs.CutText.{CutText, PatternText};
 ghost use Rattle.oriedit.specs.Dues.{text_of};
 ghost use Rattle.oriedit.specs.Run.{Answers, WritesDue};

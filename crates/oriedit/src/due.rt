@@ -38,7 +38,8 @@ impl Due {
 
 /// The status that is due, or a write fault where the text could not be written.
 pub(crate) fn written<W: Sink>(sink: &mut W, due: &Due) -> Status
-    ensures bytes { WritesDue (W.held sink.old) (W.held sink.new) (text_of due.now.text) due.now.status result }
+    ensures bytes { WritesDue (W.held sink.old) (W.held sink.new)
+        (text_of due.now.text) due.now.status result }
     ensures fault { result ≡ due.now.status
         ⊎ ((result ≡ Status.WriteFault) × Rose (W.faults sink.old) (W.faults sink.new)) }
     ensures later { W.faults sink.old ≤ W.faults sink.new }

@@ -1,6 +1,6 @@
 //! Runs of `generate`, worked by hand.
 use crate::{Status, run};
-use ports::{MemSink, MemSource};
+use ports::{MemDoor, MemSink, MemSource};
 use projects::MemKeeper;
 use std::alloc::Global;
 use std::test::Fail;
@@ -14,7 +14,15 @@ fn run_of(alloc: Global, words: &[&str], full: Vec<u64>) -> Result<(Status, MemS
     let mut source = MemSource::new(Vec::new(alloc), 4096, Vec::new(alloc));
     let mut sink = MemSink::new(Vec::with_capacity(alloc, 1000)?, 1000, full);
     let mut keeper = MemKeeper::new(alloc, Vec::new(alloc), Vec::new(alloc));
-    let status = run(alloc, &given, &mut source, &mut sink, &mut keeper);
+    let mut door = MemDoor::new(Vec::new(alloc), Vec::new(alloc));
+    let status = run(
+        alloc,
+        &given,
+        &mut source,
+        &mut sink,
+        &mut keeper,
+        &mut door,
+    );
     Ok((status, sink))
 }
 

@@ -1,21 +1,25 @@
 //! Runs of a generator: its commands, one after another, and the summary of their replies.
-ghost use Rattle.std.specs.Prelude.{◌≡◌, ◌≤◌, ◌<◌, ◌^◌, ◌+◌, ◌*◌, ◌%◌, ◌-◌, ◌∷◌, None, IfOk};
+ghost use Rattle.std.specs.Prelude.{◌≡◌, ◌≤◌, ◌<◌, ◌+◌, ◌%◌, ◌-◌, ◌∷◌, None, IfOk};
 ghost use Rattle.ports.specs.Streams.{Rose};
 ghost use Rattle.oriedit.specs.Script.{works};
-ghost use Rattle.oriedit.specs.Generating.{subject, asked, Kind, Turning, Asking, Framing, question, Generates};
+ghost use Rattle.oriedit.specs.Generating.{subject, asked, Kind, Turning, Asking, Framing, question};
+ghost use Rattle.oriedit.specs.Generating.{Generates};
 ghost use Rattle.dialogue.specs.declared.command.Command.TheVariants as command;
-ghost use Rattle.oriedit.specs.Summary.{plus, of_turn, of_question, creases_told as creases_of, sizes_told as sizes_of, faults_told as faults_of};
-ghost use Rattle.oriedit.specs.Counting.{Learns, IsTurnMore, IsQuestionMore, Counts, IsSmall, Tallies, Closes, AnswersAll, Summarizes};
+ghost use Rattle.oriedit.specs.Summary.{plus, of_turn, of_question, creases_told as creases_of};
+ghost use Rattle.oriedit.specs.Summary.{sizes_told as sizes_of, faults_told as faults_of};
+ghost use Rattle.oriedit.specs.Counting.{Learns, IsTurnMore, IsQuestionMore, Counts, IsSmall, Tallies};
+ghost use Rattle.oriedit.specs.Counting.{Closes, AnswersAll, Summarizes};
 
 use crate::Status;
 use crate::summary::{Last, Sizes, creases_told, faults_told, sizes_told, summary};
 use crate::tally::Tally;
-use dialogue::{Command, Name, Reply};
+use dialogue::{Command, Reply};
 use generator::Generator;
 use ports::{NoMemory, Sink};
 use projects::{Desk, Keeper};
 use sheet::Sheet;
 use std::alloc::Global;
+use vocabulary::Name;
 
 /// Makes the project `g` on the unit square, does so many turns of the generator with this seed, asks
 /// for the faults after every sixteenth of them, and for the pattern, its subdivision and its faults

@@ -1,4 +1,4 @@
-//! Laws of what the program owes for its words and its input. Each is a theorem: a function that does
+//! Laws of what the program owes for its input. Each is a theorem: a function that does
 //! nothing, whose clause says what holds.
 ghost use Rattle.std.specs.Prelude.{◌≡◌, ℕ, List};
 ghost use Rattle.sheet.specs.Sheet.{ExactSheet};
@@ -6,8 +6,6 @@ ghost use Rattle.lattice.specs.Lattice.{Measures};
 ghost use Rattle.oriedit.specs.CutText.{CutText};
 ghost use Rattle.oriedit.specs.CheckText.{CheckText};
 ghost use Rattle.oriedit.specs.Units.{AreUnits};
-ghost use Rattle.oriedit.specs.Words.{Asks};
-ghost use Rattle.oriedit.specs.declared.asking.Ask.{Ask as AnyAsk};
 ghost use Rattle.oriedit.specs.declared.status.Status.{Status as AnyStatus};
 
 use commands::wanted_is_one;
@@ -17,7 +15,8 @@ use edits::answer_is_one;
 /// For each input `cut` owes one text, with one status. So an input is cut or refused, and never
 /// either of both.
 pub fn cut_text_is_one()
-    ensures { (bytes : List ℕ) (s r : AnyStatus) (text other : List ℕ) → CutText bytes s text → CutText bytes r other → (s ≡ r) × (text ≡ other) }
+    ensures { (bytes : List ℕ) (s r : AnyStatus) (text other : List ℕ) → CutText bytes s text
+        → CutText bytes r other → (s ≡ r) × (text ≡ other) }
 {}
 
 /// For each input `check` owes one text, with one status, by a lattice and on a sheet. So an input is
@@ -30,11 +29,6 @@ pub fn check_text_is_one()
     cp_reading_is_one();
     answer_is_one();
 }
-
-/// Words ask for one thing: a command with its settings, or the usage text.
-pub fn words_ask_one_thing()
-    ensures { (words : List (List ℕ)) (a b : AnyAsk) → Asks words a → Asks words b → a ≡ b }
-{}
 
 /// The bytes of a script have one list of whole units, and one rest.
 pub fn units_are_one()

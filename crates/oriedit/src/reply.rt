@@ -21,7 +21,7 @@ pub fn bad_line(alloc: Global, bad: &PatternBad) -> Result<Vec<u8>, AllocError>
 }
 
 /// The decimal digits.
-#[tactic(auto, using(qroot2::proofs::Decimals::numeral_decimal))]
+#[tactic(auto, using(qroot2::proofs::callers::Decimals::numeral_decimal))]
 fn put_numeral(text: &mut Vec<u8>, number: u64) -> Result<(), AllocError>
     ensures { OnOk result (text.new.items ≡ text.old.items ++ numeral number) }
 {

@@ -2,7 +2,7 @@
 ghost use Rattle.std.specs.Prelude.{◌≤◌};
 
 use crate::{Status, run};
-use ports::{MemSink, MemSource};
+use ports::{MemDoor, MemSink, MemSource};
 use projects::MemKeeper;
 use std::alloc::Global;
 use std::test::Fail;
@@ -20,7 +20,8 @@ fn script_of(
     words.push(String::from_str(alloc, "script")?)?;
     let mut sink = MemSink::new(Vec::with_capacity(alloc, 4000)?, 4000, full);
     let mut keeper = MemKeeper::new(alloc, commits, others);
-    let status = run(alloc, &words, source, &mut sink, &mut keeper);
+    let mut door = MemDoor::new(Vec::new(alloc), Vec::new(alloc));
+    let status = run(alloc, &words, source, &mut sink, &mut keeper, &mut door);
     Ok((status, sink))
 }
 
@@ -269,6 +270,29 @@ fn a_keeper_that_fails_is_told_and_the_script_goes_on(rt: HostRuntime) -> Result
     assert_eq!(rt; status, Status::Ok);
     let text = b"done 0\nkeeper-failed\ndone 1\ntext 2\nq2 1\nM 0,0 1,1\n";
     assert_eq!(rt; sink.bytes()[..], text[..]);
+    Ok(())
+}
+
+#[test]
+fn a_keeper_that_cannot_be_attached_ends_the_script(rt: HostRuntime) -> Result<(), Fail> {
+    let alloc = rt.alloc();
+    let mut words = Vec::new(alloc);
+    words.push(String::from_str(alloc, "script")?)?;
+    words.push(String::from_str(alloc, "--keep=p.db")?)?;
+    let mut source = MemSource::new(b"new sq\n".to_vec(alloc)?, 4096, Vec::new(alloc));
+    let mut sink = MemSink::new(Vec::with_capacity(alloc, 100)?, 100, Vec::new(alloc));
+    let mut keeper = MemKeeper::new(alloc, Vec::new(alloc), [1u64].to_vec(alloc)?);
+    let mut door = MemDoor::new(Vec::new(alloc), Vec::new(alloc));
+    let status = run(
+        alloc,
+        &words,
+        &mut source,
+        &mut sink,
+        &mut keeper,
+        &mut door,
+    );
+    assert_eq!(rt; status, Status::KeeperFault);
+    assert_eq!(rt; sink.bytes().len(), 0);
     Ok(())
 }
 

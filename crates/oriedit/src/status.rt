@@ -5,7 +5,7 @@ ghost use Rattle.oriedit.specs.StatusNumber.{number_of};
 /// How the program ends. Each status has a number, the exit status of the process.
 #[derive(Clone, Copy, Debug, PartialEq, Eq)]
 pub enum Status {
-    /// 0: the command did its work, and its input was read to its end.
+    /// 0: the command did its work, and its input was read to its end, or its connections were served.
     Ok,
     /// 1: the input of `check` was accepted and has faults; they were written.
     FaultsFound,
@@ -17,6 +17,10 @@ pub enum Status {
     WriteFault,
     /// 5: there was no memory.
     NoMemory,
+    /// 6: what keeps the projects could not be opened where `--keep` says.
+    KeeperFault,
+    /// 7: no connections could be had at the port.
+    DoorFault,
     /// 8: the input reaches its limit of bytes before its end.
     TooLong,
     /// 10: the input was read to its end and is refused; the line that says why was written.
@@ -35,6 +39,8 @@ impl Status {
             Status::ReadFault => 3,
             Status::WriteFault => 4,
             Status::NoMemory => 5,
+            Status::KeeperFault => 6,
+            Status::DoorFault => 7,
             Status::TooLong => 8,
             Status::Refused => 10,
         }

@@ -1,6 +1,8 @@
 //! The summary of a run of a generator.
 ghost use Rattle.std.specs.Prelude.{◌≡◌, ◌++◌, IfOk, OnOk};
-ghost use Rattle.oriedit.specs.Summary.{creases_told as creases_of, sizes_told as sizes_of, faults_told as faults_of, told, counted, final_line, summary as summary_text};
+ghost use Rattle.oriedit.specs.Summary.{creases_told as creases_of, sizes_told as sizes_of};
+ghost use Rattle.oriedit.specs.Summary.{faults_told as faults_of, told, counted, final_line};
+ghost use Rattle.oriedit.specs.Summary.{summary as summary_text};
 
 use crate::tally::Tally;
 use dialogue::Reply;

@@ -1,5 +1,5 @@
 //! What the replies to the commands of a generator come to.
-ghost use Rattle.std.specs.Prelude.{◌≡◌, ◌<◌, ◌≤◌, ◌^◌};
+ghost use Rattle.std.specs.Prelude.{◌≡◌, ◌<◌, ◌^◌};
 ghost use Rattle.oriedit.specs.Summary.{nothing, plus, of_turn, of_question};
 ghost use Rattle.oriedit.specs.Counting.{IsTurnMore, IsQuestionMore};
 

@@ -1,6 +1,6 @@
 //! Runs of the whole program over streams in memory.
 use crate::{Status, run};
-use ports::{MemSink, MemSource};
+use ports::{MemDoor, MemSink, MemSource};
 use projects::MemKeeper;
 use qroot2::{Num, put_num};
 use std::alloc::Global;
@@ -19,7 +19,15 @@ fn cut_of(
     let mut source = MemSource::new(bytes, 4096, broken);
     let mut sink = MemSink::new(Vec::with_capacity(alloc, 1000)?, 1000, full);
     let mut keeper = MemKeeper::new(alloc, Vec::new(alloc), Vec::new(alloc));
-    let status = run(alloc, &words, &mut source, &mut sink, &mut keeper);
+    let mut door = MemDoor::new(Vec::new(alloc), Vec::new(alloc));
+    let status = run(
+        alloc,
+        &words,
+        &mut source,
+        &mut sink,
+        &mut keeper,
+        &mut door,
+    );
     Ok((status, sink))
 }
 
@@ -198,8 +206,9 @@ fn other_words_write_the_usage_text(rt: HostRuntime) -> Result<(), Fail> {
     let mut source = MemSource::new(Vec::new(alloc), 1, Vec::new(alloc));
     let mut sink = MemSink::new(Vec::with_capacity(alloc, 1000)?, 1000, Vec::new(alloc));
     let mut keeper = MemKeeper::new(alloc, Vec::new(alloc), Vec::new(alloc));
+    let mut door = MemDoor::new(Vec::new(alloc), Vec::new(alloc));
     assert_eq!(rt;
-        run(alloc, &[], &mut source, &mut sink, &mut keeper),
+        run(alloc, &[], &mut source, &mut sink, &mut keeper, &mut door),
         Status::Usage
     );
     assert_eq!(rt; sink.bytes()[..19], b"usage: oriedit cut\n"[..]);
@@ -213,7 +222,8 @@ fn a_sink_that_fails_at_the_usage_text_is_a_write_fault(rt: HostRuntime) -> Resu
     let full = [1u64].to_vec(alloc)?;
     let mut sink = MemSink::new(Vec::with_capacity(alloc, 1000)?, 1000, full);
     let mut keeper = MemKeeper::new(alloc, Vec::new(alloc), Vec::new(alloc));
-    let status = run(alloc, &[], &mut source, &mut sink, &mut keeper);
+    let mut door = MemDoor::new(Vec::new(alloc), Vec::new(alloc));
+    let status = run(alloc, &[], &mut source, &mut sink, &mut keeper, &mut door);
     assert_eq!(rt; status, Status::WriteFault);
     Ok(())
 }

@@ -1,8 +1,5 @@
-use Rattle.std.proofs.Common.{◌<◌, ◌^◌, rules, arith}
-use Rattle.commands.proofs.Numbers.{not_utf8}
+use Rattle.commands.proofs.Numbers.{spelled}
 use Rattle.commands.proofs.number.read_number.Goals as goal
 
-pub returns-in-Err : goal.returns-in-Err
-returns-in-Err c = λ n l e.
-    let f : c.args.most < 2 ^ 64 = search rules in
-    not_utf8 c.args.bytes.now n (omega arith) c.in-Err.ensures.cases.0 e
+pub returns : goal.returns
+returns c = spelled c.args.bytes.now c.args.most c.read_number.result c.read_number.ensures

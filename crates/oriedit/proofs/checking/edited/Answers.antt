@@ -1,6 +1,6 @@
 use Rattle.std.proofs.Common.{subst}
 use Rattle.std.specs.Prelude.{Ok}
-use Rattle.pattern.proofs.Leading.{leads_to_one}
+use Rattle.pattern.proofs.callers.Leading.{leads_to_one}
 use Rattle.edits.specs.EditOf.{EditOf}
 use Rattle.oriedit.proofs.checking.edited.Goals as goal
 

@@ -1,5 +1,5 @@
 use Rattle.std.proofs.Common.{inr, refl}
-use Rattle.oriedit.specs.Words.{usage_text}
+use Rattle.words.specs.Words.{usage_text}
 use Rattle.oriedit.proofs.Answered.{put_part}
 use Rattle.oriedit.proofs.cutting.usage.Goals as goal
 

@@ -1,5 +1,5 @@
 use Rattle.std.proofs.Common.{sym, subst}
-use Rattle.qroot2.proofs.Reading.{none_long, some_long}
+use Rattle.qroot2.proofs.callers.Reading.{none_long, some_long}
 use Rattle.oriedit.specs.Lasting.{AnswersLast}
 use Rattle.oriedit.proofs.Lasting.{no_last, last_answered, last_ended, length_none, some_bytes}
 use Rattle.oriedit.proofs.scripting.answer_last.Goals as goal

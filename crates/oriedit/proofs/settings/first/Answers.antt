@@ -1,9 +1,0 @@
-use Rattle.std.proofs.Common.{string_bytes, subst}
-use Rattle.oriedit.specs.FirstSetting.{IsFirst}
-use Rattle.oriedit.proofs.SettingLists.{cut_list}
-use Rattle.oriedit.proofs.settings.first.Goals as goal
-
-pub returns-in-len1-up-clause-none : goal.returns-in-len1-up-clause-none
-returns-in-len1-up-clause-none c = λ n s behind f.
-    c.first_by.ensures.none n s behind
-    (subst (λ w. IsFirst w s behind) (cut_list string_bytes c.args.words.now c.word-item.result c.as_str.result.now c.in-len1-up.len_at_least c.word-item.is c.as_str.ensures.value) f)
