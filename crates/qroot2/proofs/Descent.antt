@@ -1,6 +1,5 @@
 -- The descent by which a √2 is compared with a whole number.
-use Rattle.std.proofs.Common.{◌≡◌, Bool, true, false, not, refl, ◌≤◌, ◌<◌, ◌+◌, ◌*◌, ℕ, arith, sym}
-use Rattle.std.proofs.lemmas.Nat.{mul-le}
+use Rattle.std.proofs.Common.{◌≡◌, Bool, true, false, not, refl, ◌+◌, ◌*◌, ℕ, arith, sym}
 use Rattle.std.proofs.lemmas.Bool.{false≢true}
 use Rattle.exact.proofs.Root.{norm_turns}
 

@@ -1,7 +1,6 @@
 pub mod callers
 pub mod Descent
 pub mod InLowestTerms
-pub mod Pairs
 pub mod Roots
 pub mod ReadingParts
 pub mod Vectors

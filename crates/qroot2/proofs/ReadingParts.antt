@@ -10,7 +10,7 @@ use Rattle.qroot2.specs.Digits.{Lacks, capped, capped_size, AreSummands, AreBoth
 use Rattle.qroot2.specs.declared.text.Numerator.{Numerator}
 use Rattle.qroot2.proofs.callers.Numerals.{numeral_injective}
 use Rattle.qroot2.proofs.callers.Splits.{lacks_append, lacks_not, split_unique, lacks_numeral}
-use Rattle.qroot2.proofs.callers.Reading.{plus_found, plus_none, capped_abs}
+use Rattle.qroot2.proofs.callers.Reading.{plus_found, plus_none, signed_lacks, capped_abs}
 
 pub plus_read : (o : Option Numerator) (whole root bytes : List ℕ) → Lacks 43 whole → bytes ≡ whole ++ 43 ∷ root
     → MatchOption o ((a : ℤ) (n : ℕ) → AreSummands a n whole root → ⊥) (λ v. (a : ℤ) × (n : ℕ) × AreSummands a n whole root × (v.a ≡ capped a) × (v.b ≡ pos (capped_size n)))
@@ -35,10 +35,6 @@ both_lacks c (pos (suc m)) (pos n) h k o = lacks_append c (numeral (suc m)) (43 
 both_lacks c (pos (suc m)) (negsuc n) h k o = lacks_append c (numeral (suc m)) (45 ∷ numeral (suc n)) (lacks_numeral c (suc m) o) ((λ e. h (sym e)), lacks_numeral c (suc n) o)
 both_lacks c (negsuc m) (pos n) h k o = ((λ e. h (sym e)), lacks_append c (numeral (suc m)) (43 ∷ numeral n) (lacks_numeral c (suc m) o) ((λ e. k (sym e)), lacks_numeral c n o))
 both_lacks c (negsuc m) (negsuc n) h k o = ((λ e. h (sym e)), lacks_append c (numeral (suc m)) (45 ∷ numeral (suc n)) (lacks_numeral c (suc m) o) ((λ e. h (sym e)), lacks_numeral c (suc n) o))
-
-pub signed_lacks : (c : ℕ) (z : ℤ) → c ≢ 45 → (c < 48) ⊎ (57 < c) → Lacks c (signed_text z)
-signed_lacks c (pos n) h k = lacks_numeral c n k
-signed_lacks c (negsuc n) h k = ((λ e. h (sym e)), lacks_numeral c (suc n) k)
 
 -- With no letter r, one with nothing behind it, and one with more.
 pub whole_none : (bytes : List ℕ) → Lacks 114 bytes → ((z : ℤ) → signed_text z ≡ bytes → ⊥) → (a b : ℤ) → numerator_text a b ≡ bytes → ⊥

@@ -5,11 +5,11 @@ use Rattle.std.specs.Int.{int_div_euclid}
 use Rattle.std.proofs.lemmas.Int.{ints}
 use Rattle.std.proofs.lemmas.Nat.{mul-le, div-add-mod', mod_below}
 use Rattle.std.proofs.lemmas.Bool.{cases_lt}
-use Rattle.std.proofs.Math.Nat.{div-le_self}
 use Rattle.exact.specs.Number.{ExactNumber, Positive, den, mul, whole}
 use Rattle.exact.specs.Floor.{IsFloor}
 use Rattle.exact.proofs.Root.{irrational}
 use Rattle.exact.proofs.Positive.{positive_sum}
+use Rattle.exact.proofs.Unique.{triple}
 use Rattle.exact.proofs.Ring.{is_eq, is_le, is_lt, is_add, is_sub, is_neg, is_mul, is_atom, is_lit}
 use Rattle.qroot2.specs.Root.{IsRootOf, IsRootPart}
 use Rattle.exact.proofs.Order.{none_gap}
@@ -179,7 +179,7 @@ floor_of n x s l k p e r h g =
       above = subst (λ (t : ℕ). Positive ((k +ℤ pos 1) *ℤ pos t -ℤ (mul (whole n) x).a *ℤ pos 1) (pos 0 *ℤ pos t -ℤ (mul (whole n) x).b *ℤ pos 1)) (sym dy) q.1;
     }
 
--- the quotient is no larger than what is divided
-pub quotient_size : (s : ℤ) (d : ℕ) → 0 < d → unsigned_abs (int_div_euclid s (pos d)) ≤ unsigned_abs s
-quotient_size (pos n) d p = div-le_self n d
-quotient_size (negsuc n) d p = omega (arith, div-le_self n d)
+-- a whole part, of a number whose parts passed through calls
+pub floor_moved : (n : ℕ) (x : ExactNumber) (a b : ℤ) (d : ℕ) (k l : ℤ) → a ≡ x.a → b ≡ x.b → d ≡ x.d → l ≡ k → IsFloor (mul (whole n) (record { a = a; b = b; d = d })) k → IsFloor (mul (whole n) x) l
+floor_moved n x a b d k l ea eb ed ek h =
+    subst (λ (z : ℤ). IsFloor (mul (whole n) x) z) (sym ek) (subst (λ (y : ExactNumber). IsFloor (mul (whole n) y) k) (triple _ _ _ _ _ _ ea eb ed) h)

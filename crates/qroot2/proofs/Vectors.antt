@@ -1,7 +1,7 @@
 -- The turn of two vectors from the products of their parts.
 use Rattle.std.proofs.Common.{◌≡◌, arith, refl, ◌∙◌}
 use Rattle.std.specs.Prelude.{ℤ, pos, neg_ℤ, ◌+ℤ◌, ◌-ℤ◌, ◌*ℤ◌}
-use Rattle.exact.specs.Number.{mul, sub}
+use Rattle.exact.specs.Number.{sub}
 use Rattle.exact.specs.Plane.{ExactPoint, turn}
 use Rattle.exact.proofs.Ring.{is_eq, is_add, is_sub, is_mul, is_neg, is_atom, is_lit}
 use Rattle.exact.proofs.Unique.{triple}

@@ -5,6 +5,7 @@ pub mod Held
 pub mod Made
 pub mod Numerals
 pub mod OneText
+pub mod Pairs
 pub mod Reading
 pub mod Reduced
 pub mod Signs

@@ -2,6 +2,7 @@
 #![tactic(auto)]
 
 mod dir;
+mod floor;
 mod laws;
 mod lowest;
 mod num;

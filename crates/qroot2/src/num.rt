@@ -2,7 +2,6 @@
 ghost use Rattle.std.specs.Prelude.{◌≡◌, pos, ◌≤◌, ◌<◌, ◌^◌, unsigned_abs, IfSome, IfNone, ◌<ℤ◌};
 ghost use Rattle.exact.specs.Number.{IsCanonical, IsRepresentable, Same};
 
-mod floor;
 mod order;
 mod product;
 mod reduce;

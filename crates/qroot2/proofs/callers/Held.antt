@@ -1,5 +1,5 @@
 -- Signed numbers that pass through a call keep their value.
-use Rattle.std.proofs.Common.{◌≡◌, ◌<◌, ◌≤◌, ◌^◌, ℕ, arith, sym, ap, ◌∙◌}
+use Rattle.std.proofs.Common.{◌≡◌, ◌<◌, ◌≤◌, ◌^◌, ℕ, arith, refl, sym, ap, ◌∙◌}
 use Rattle.std.specs.Prelude.{ℤ, pos, neg_ℤ, ◌+ℤ◌, ◌-ℤ◌, ◌*ℤ◌, unsigned_abs}
 use Rattle.std.specs.Int.{cast_signed, cast_unsigned, w64, w128}
 use Rattle.std.proofs.lemmas.Int.{ints, to_z-of_z, to_z_pos, fits_signed_from_abs}
@@ -73,13 +73,17 @@ doubled_product a b c d r s e f = rw (e, f) (twice (a *ℤ c) (b *ℤ d))
     twice x y = omega (arith, ints)
 
 -- a size turned and lowered by 1
-pub turned : (n : ℕ) → n ≤ 2 ^ 98 → through (through (pos 0 -ℤ cast_signed w128 n) -ℤ pos 1) ≡ neg_ℤ (pos n) -ℤ pos 1
+pub turned : (n : ℕ) → n ≤ 2 ^ 106 → through (through (pos 0 -ℤ cast_signed w128 n) -ℤ pos 1) ≡ neg_ℤ (pos n) -ℤ pos 1
 turned n h =
     rw (to_z_pos w128 n (omega arith), held_128 (pos 0 -ℤ pos n) (omega (arith, ints)))
     (held_128 (pos 0 -ℤ pos n -ℤ pos 1) (omega (arith, ints)) ∙ omega (arith, ints))
 
-pub held_sum : (x y : ℤ) → unsigned_abs x ≤ 2 ^ 100 → unsigned_abs y ≤ 2 ^ 100 → through (through x +ℤ through y) ≡ x +ℤ y
+pub held_sum : (x y : ℤ) → unsigned_abs x ≤ 2 ^ 106 → unsigned_abs y ≤ 2 ^ 106 → through (through x +ℤ through y) ≡ x +ℤ y
 held_sum x y h k = rw (held_128 x (omega arith), held_128 y (omega arith)) (held_128 (x +ℤ y) (omega (arith, ints)))
 
-pub sum_size : (x y : ℤ) → unsigned_abs x ≤ 2 ^ 100 → unsigned_abs y ≤ 2 ^ 100 → unsigned_abs (x +ℤ y) ≤ 2 ^ 101
-sum_size x y h k = omega (arith, ints)
+-- a numerator carried over to 128 bits, and a denominator
+pub carried : (r x a : ℤ) → unsigned_abs a ≤ 2 ^ 48 → x ≡ a → r ≡ through_64 x → through r ≡ a
+carried r x a h e f = rw (f, e, held_64 a (omega arith)) (held_128 a (omega arith))
+
+pub carried_size : (r : ℕ) (x : ℤ) (d : ℕ) → d ≤ 2 ^ 20 → x ≡ pos d → r ≡ unsigned_abs (through_64 x) → r ≡ d
+carried_size r x d h e f = rw (f, e, held_64 (pos d) (omega arith)) refl

@@ -11,8 +11,8 @@ use Rattle.qroot2.specs.Text.{numeral, signed_text, both_text, numerator_text, d
 use Rattle.qroot2.specs.Digits.{Lacks, capped, capped_size}
 use Rattle.qroot2.proofs.callers.Numerals.{numeral_injective}
 use Rattle.qroot2.proofs.callers.Splits.{lacks_append, lacks_not, split_unique, lacks_numeral}
-use Rattle.qroot2.proofs.callers.Reading.{signed_injective, headed, capped_abs}
-use Rattle.qroot2.proofs.ReadingParts.{signed_lacks, both_lacks, numerator_lacks}
+use Rattle.qroot2.proofs.callers.Reading.{signed_injective, headed, capped_abs, signed_lacks}
+use Rattle.qroot2.proofs.ReadingParts.{both_lacks, numerator_lacks}
 use Rattle.qroot2.proofs.callers.Held.{through, through_64, held_128, held_64}
 use Rattle.qroot2.proofs.callers.Answered.{given}
 

@@ -129,7 +129,7 @@ both_minus (pos (suc n)) m h = refl
 both_minus (negsuc n) m h = refl
 
 -- a signed number's text holds no other byte than digits behind its first
-signed_lacks : (c : ℕ) (z : ℤ) → c ≢ 45 → (c < 48) ⊎ (57 < c) → Lacks c (signed_text z)
+pub signed_lacks : (c : ℕ) (z : ℤ) → c ≢ 45 → (c < 48) ⊎ (57 < c) → Lacks c (signed_text z)
 signed_lacks c (pos n) h k = lacks_numeral c n k
 signed_lacks c (negsuc n) h k = ((λ e. h (sym e)), lacks_numeral c (suc n) k)
 

@@ -4,7 +4,7 @@ use Rattle.std.proofs.lemmas.Int.{fits_signed_from_abs}
 use Rattle.std.specs.Int.{w128}
 use Rattle.qroot2.specs.Wide.{Pair, pair_mul}
 use Rattle.qroot2.proofs.callers.Held.{held_product, both_same, held_128, small_sum, small_sum_twice, small_sum_bound, small_sum_twice_bound, doubled_product}
-use Rattle.qroot2.proofs.Pairs.{by_parts}
+use Rattle.qroot2.proofs.callers.Pairs.{by_parts}
 use Rattle.qroot2.proofs.dir.product.Goals as goal
 
 pub overflow_add-times-2 : goal.overflow_add-times-2

@@ -1,7 +1,7 @@
 use Rattle.std.proofs.Common.{arith, ap}
 use Rattle.std.proofs.lemmas.Int.{ints}
 use Rattle.qroot2.specs.Wide.{Pair, pair_sub}
-use Rattle.qroot2.proofs.Pairs.{by_parts}
+use Rattle.qroot2.proofs.callers.Pairs.{by_parts}
 use Rattle.qroot2.proofs.wide.WideSub.sub.Goals as goal
 
 pub returns : goal.returns

@@ -1,8 +1,8 @@
 use Rattle.std.proofs.Common.{arith, ◌/◌}
 use Rattle.std.proofs.lemmas.Nat.{div-add-mod'}
 use Rattle.qroot2.proofs.Roots.{root_step}
-use Rattle.qroot2.proofs.num.floor.+root_of.Goals as goal
-use Rattle.qroot2.proofs.num.floor.+root_of.Goals.{then-b-eq1, else-b-eq1}
+use Rattle.qroot2.proofs.floor.+root_of.Goals as goal
+use Rattle.qroot2.proofs.floor.+root_of.Goals.{then-b-eq1, else-b-eq1}
 
 pub returns-clause-root : goal.returns-clause-root
 returns-clause-root t c =

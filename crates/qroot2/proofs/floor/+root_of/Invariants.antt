@@ -1,4 +1,4 @@
-use Rattle.qroot2.proofs.num.floor.+root_of.Given as goal
+use Rattle.qroot2.proofs.floor.+root_of.Given as goal
 
 abbrev pub decreases-root_of : goal.decreases-root_of
 decreases-root_of l = l.b
