@@ -1,5 +1,4 @@
 //! Three creases on one line and one on another, worked by hand.
-
 use crate::{Crease, CreaseMap};
 use plane::{Point, Seg, read_point};
 use sheet::Colour;

@@ -5,10 +5,10 @@ use Rattle.exact.specs.Plane.{ExactPoint, ExactSegment}
 use Rattle.sheet.specs.Sheet.{ExactSheet, InSheet}
 use Rattle.sheet.specs.Pattern.{ExactCrease, IsKey}
 use Rattle.sheet.specs.declared.mark.Mark.{Mark}
+use Rattle.plane.specs.Walls.{LeadsInside}
 use Rattle.edits.specs.Ends.{EndsOf}
 use Rattle.edits.specs.Lines.{LinesOf}
 use Rattle.edits.specs.RabbitEar.{EarOf}
-use Rattle.edits.specs.Walls.{LeadsInside}
 use Rattle.edits.specs.declared.refusal.EditBad.{EditBad}
 
 pub within : {given sheet : ExactSheet} (p : ExactPoint) → given ≡ sheet → InSheet given p → InSheet sheet p

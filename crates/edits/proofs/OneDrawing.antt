@@ -1,14 +1,17 @@
 -- Each edit but the rabbit ear, step by step, has one answer.
-use Rattle.std.proofs.Common.{◌≡◌, ℕ, ◌+◌, ◌/◌, ◌%◌, ◌<◌, List, [], ◌∷◌, sym, ap, subst, ◌∙◌, inl, inr, arith}
 use Rattle.std.specs.Prelude.{Result, Ok}
+use Rattle.std.proofs.Common.{◌≡◌, ℕ, ◌<◌, List, [], ◌∷◌, sym, subst, ◌∙◌, inl, inr}
 use Rattle.exact.specs.Plane.{ExactPoint, ExactSegment, SamePoint, Before}
 use Rattle.sheet.specs.Sheet.{ExactSheet}
 use Rattle.sheet.specs.Pattern.{ExactCrease, ExactPattern}
 use Rattle.sheet.specs.declared.colour.Colour.{Colour}
-use Rattle.geometry.proofs.PointOrder.{before_not_back, same_before, before_same}
 use Rattle.qroot2.specs.Dir.{IsMiddle}
+use Rattle.geometry.proofs.PointOrder.{before_not_back, same_before, before_same}
+use Rattle.geometry.proofs.RayPoints.{ray_ordered}
 use Rattle.plane.proofs.callers.Imaged.{image_only}
 use Rattle.plane.proofs.callers.Orders.{point_unique}
+use Rattle.plane.proofs.callers.OneIncentre.{middle_one}
+use Rattle.pattern.proofs.callers.SingleText.{seg_made}
 use Rattle.edits.specs.Rules.{Gives, Then}
 use Rattle.edits.specs.CreaseSet.{AreCreases}
 use Rattle.edits.specs.Drawn.{IsLeft, StandsAfter, Counted, DrawnOne, DrawnInTurn}
@@ -23,7 +26,6 @@ use Rattle.edits.specs.declared.refusal.EditBad.{EditBad}
 use Rattle.edits.specs.declared.refusal.EditBad.TheVariants as bad
 use Rattle.edits.proofs.OneAnswer.{HasOneAnswer, gives_one, unless_one, then_one, for_each_one}
 use Rattle.edits.proofs.OneList.{creases_are_one}
-use Rattle.edits.proofs.RayPoints.{ray_ordered}
 
 pub equal_one : {A : Type 0} (a : A) → HasOneAnswer (Gives (λ b. b ≡ a))
 equal_one a = gives_one (λ b. b ≡ a) (λ b c p q. p ∙ sym q)
@@ -45,18 +47,15 @@ pub in_turn_one : (drawings creases : List ExactCrease) → HasOneAnswer (DrawnI
 in_turn_one [] creases = answer_is (Ok creases)
 in_turn_one (d ∷ rest) creases = then_one (DrawnOne d creases) (λ after. DrawnInTurn rest after) (drawn_one d creases) (λ after _. in_turn_one rest after)
 
-segments_equal : (a b : ExactSegment) → a.p ≡ b.p → a.q ≡ b.q → a ≡ b
-segments_equal a b f g = λ i. record { p = f i; q = g i }
-
 pub joins_one : (p q : ExactPoint) (a b : ExactSegment) → Joins a p q → Joins b p q → a ≡ b
 joins_one p q a b h k = elim h.1 [
   | inl e ↦ elim k.1 [
-    | inl f ↦ segments_equal a b (e.0 ∙ sym f.0) (e.1 ∙ sym f.1)
+    | inl f ↦ seg_made a b (e.0 ∙ sym f.0) (e.1 ∙ sym f.1)
     | inr f ↦ absurd (crossed a b h.0.0 k.0.0 (e.0 ∙ sym f.1) (e.1 ∙ sym f.0))
   ]
   | inr e ↦ elim k.1 [
     | inl f ↦ absurd (crossed a b h.0.0 k.0.0 (e.0 ∙ sym f.1) (e.1 ∙ sym f.0))
-    | inr f ↦ segments_equal a b (e.0 ∙ sym f.0) (e.1 ∙ sym f.1)
+    | inr f ↦ seg_made a b (e.0 ∙ sym f.0) (e.1 ∙ sym f.1)
   ]
 ]
   where
@@ -86,11 +85,6 @@ extension_is_one pattern start k a b h l =
 
 pub extension_one : (pattern : ExactPattern) (start : ExactPoint) (k : ℕ) → HasOneAnswer (Extension pattern start k)
 extension_one pattern start k = unless_one _ _ _ (unless_one _ _ _ (unless_one _ _ _ (unless_one _ _ _ (gives_one (IsExtension pattern start k) (extension_is_one pattern start k)))))
-
-pub middle_one : (i j k m : ℕ) → IsMiddle i j k → IsMiddle i j m → k ≡ m
-middle_one i j k m h l =
-    let n : h.0 ≡ l.0 = omega (arith, h.1.some, h.1.small, h.1.leads, l.1.some, l.1.small, l.1.leads) in
-    h.3 ∙ ap (λ z. (i + z / 2) % 16) n ∙ sym l.3
 
 pub bisector_one : (pattern : ExactPattern) (start : ExactPoint) (i j : ℕ) → HasOneAnswer (Bisector pattern start i j)
 unfolding HasOneAnswer

@@ -19,7 +19,7 @@ use Rattle.edits.specs.declared.edit.Edit.TheVariants as edit
 use Rattle.edits.specs.declared.refusal.EditBad.TheVariants as bad
 use Rattle.edits.proofs.OneAnswer.{HasOneAnswer, unless_one, then_one}
 use Rattle.edits.proofs.OneDrawing.{equal_one, drawn_one, in_turn_one, ends_one, erased_one, recoloured_one, extension_one, bisector_one, images_one, lines_one}
-use Rattle.edits.proofs.OneEar.{ear_one}
+use Rattle.edits.proofs.ears.OneEar.{ear_one}
 
 edited_one : (old : ExactPattern) (e : Edit) → HasSmallAxis e → HasOneAnswer (Edited old e)
 edited_one old (edit.Draw c from to) h = then_one (EndsOf old.sheet from to) (λ s. DrawnOne (crease s c) old.creases) (ends_one old.sheet from to) (λ s _. drawn_one (crease s c) old.creases)

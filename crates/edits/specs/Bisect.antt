@@ -4,8 +4,9 @@ use Rattle.exact.specs.Plane.{ExactPoint, ExactSegment}
 use Rattle.sheet.specs.Sheet.{InSheet}
 use Rattle.sheet.specs.Pattern.{ExactPattern}
 use Rattle.qroot2.specs.Dir.{IsMiddle, HasOddAngle}
+use Rattle.geometry.specs.Rays.{RunsAlong}
 use Rattle.edits.specs.Rules.{Unless}
-use Rattle.edits.specs.Rays.{RunsAlong, IsSideOrCrease}
+use Rattle.edits.specs.SidesAndCreases.{IsSideOrCrease}
 use Rattle.edits.specs.Extend.{Extension}
 use Rattle.edits.specs.declared.refusal.EditBad.{EditBad}
 use Rattle.edits.specs.declared.refusal.EditBad.TheVariants as bad

@@ -1,18 +1,16 @@
 -- The segment along a ray to the first crease or side.
 use Rattle.std.specs.Prelude.{ℕ, List, Result}
 use Rattle.exact.specs.Plane.{ExactPoint, ExactSegment, IsPointCanonical, IsPointRepresentable}
-use Rattle.sheet.specs.Sheet.{ExactSheet, InSheet, IsInside}
+use Rattle.sheet.specs.Sheet.{InSheet}
 use Rattle.sheet.specs.Pattern.{ExactCrease, ExactPattern}
+use Rattle.geometry.specs.Rays.{OnRay, RunsAlong, MeetsRay}
+use Rattle.plane.specs.Walls.{MissesInside}
 use Rattle.edits.specs.Rules.{Gives, Unless}
 use Rattle.edits.specs.Ends.{Joins}
-use Rattle.edits.specs.Rays.{OnRay, NearStart, RunsAlong, MeetsRay, IsCrease, IsSideOrCrease, OnSideOrCrease}
+use Rattle.edits.specs.SidesAndCreases.{IsCrease, IsSideOrCrease, OnSideOrCrease}
 use Rattle.edits.specs.declared.refusal.EditBad.{EditBad}
 use Rattle.edits.specs.declared.refusal.EditBad.TheVariants as bad
 use Rattle.edits.specs.declared.refusal.PointKind.TheVariants as point
-
--- no point of the ray close to its start is strictly inside the sheet
-abbrev pub MissesInside : ExactSheet → ExactPoint → ℕ → Type 0
-MissesInside sheet at k = NearStart at k (λ r. ¬ IsInside sheet r)
 
 -- a crease runs along the ray from its start on
 abbrev pub IsCovered : List ExactCrease → ExactPoint → ℕ → Type 0

@@ -8,11 +8,9 @@ pub mod Ends
 pub mod Erase
 pub mod Recolour
 pub mod Flip
-pub mod Rays
 pub mod Extend
 pub mod Bisect
 pub mod Mirror
-pub mod Triangles
 pub mod RabbitEar
 pub mod Lines
 pub mod EditOf
@@ -20,5 +18,5 @@ pub mod Beside
 pub mod Pieces
 pub mod Foldable
 pub mod Sights
-pub mod Walls
 pub mod Lefts
+pub mod SidesAndCreases

@@ -7,8 +7,8 @@ use Rattle.sheet.specs.declared.colour.Colour.{Colour}
 use Rattle.sheet.specs.declared.colour.Colour.TheVariants as colour
 use Rattle.sheet.specs.declared.mark.Mark.{Mark}
 use Rattle.sheet.specs.declared.mark.Mark.TheVariants as mark
+use Rattle.plane.specs.Triangles.{IsOddCorner, AreOnOneLine, IsIncentre, IsFootBetween}
 use Rattle.edits.specs.Rules.{Gives, Unless}
-use Rattle.edits.specs.Triangles.{IsOddCorner, AreOnOneLine, IsIncentre, IsFootBetween}
 use Rattle.edits.specs.Ends.{Joins, AreJoined}
 use Rattle.edits.specs.CreaseSet.{crease}
 use Rattle.edits.specs.declared.refusal.EditBad.{EditBad}

@@ -1,7 +1,7 @@
 -- What a ray meets of some segments.
 use Rattle.std.specs.Prelude.{◌≡◌, ℕ, ◌⊎◌}
 use Rattle.exact.specs.Plane.{ExactPoint, ExactSegment, OnSeg, IsPointCanonical, IsPointRepresentable}
-use Rattle.edits.specs.Rays.{OnRay, RunsAlong, MeetsRay}
+use Rattle.geometry.specs.Rays.{OnRay, RunsAlong, MeetsRay}
 use Rattle.edits.specs.declared.sight.Sight.{Sight}
 use Rattle.edits.specs.declared.sight.Sight.TheVariants.{Nothing, Along, First, OutOfRange}
 

@@ -3,7 +3,8 @@ ghost use Rattle.std.specs.Prelude.{IfOk, IsTrue, ◌↔◌, Contains};
 ghost use Rattle.sheet.specs.Pattern.{IsKey};
 ghost use Rattle.sheet.specs.Sheet.{sides};
 ghost use Rattle.exact.specs.Plane.{ExactSegment};
-ghost use Rattle.edits.specs.Rays.{RunsAlong, IsCrease};
+ghost use Rattle.geometry.specs.Rays.{RunsAlong};
+ghost use Rattle.edits.specs.SidesAndCreases.{IsCrease};
 ghost use Rattle.edits.specs.Bisect.{HasRay, Bisector};
 
 use crate::EditBad;

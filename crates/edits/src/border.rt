@@ -1,6 +1,6 @@
 //! The rays that lead inside the sheet.
 ghost use Rattle.std.specs.Prelude.{◌<◌, IsTrue, ◌↔◌};
-ghost use Rattle.edits.specs.Walls.{FirstIsPlus, LeadsLeft, LeadsInside};
+ghost use Rattle.plane.specs.Walls.{FirstIsPlus, LeadsLeft, LeadsInside};
 
 use plane::{Point, corner, side};
 use qroot2::{Dir, Sign};

@@ -3,8 +3,9 @@ ghost use Rattle.std.specs.Prelude.{◌<◌, IfOk, Contains};
 ghost use Rattle.exact.specs.Plane.{IsPointCanonical};
 ghost use Rattle.sheet.specs.Sheet.{sides};
 ghost use Rattle.sheet.specs.Pattern.{IsKey};
+ghost use Rattle.geometry.specs.Rays.{OnRay};
 ghost use Rattle.edits.specs.Ends.{Joins};
-ghost use Rattle.edits.specs.Rays.{OnRay, IsSideOrCrease};
+ghost use Rattle.edits.specs.SidesAndCreases.{IsSideOrCrease};
 ghost use Rattle.edits.specs.Sights.{Sees};
 ghost use Rattle.edits.specs.Extend.{Extension};
 

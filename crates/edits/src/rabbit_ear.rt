@@ -3,8 +3,8 @@ ghost use Rattle.std.specs.Prelude.{◌≡◌, IfOk, IfErr, Ok, Err, All};
 ghost use Rattle.exact.specs.Plane.{IsPointCanonical};
 ghost use Rattle.sheet.specs.Sheet.{InSheet, IsInside};
 ghost use Rattle.sheet.specs.Pattern.{IsKey};
+ghost use Rattle.plane.specs.Triangles.{IsIncentre, IsFootBetween};
 ghost use Rattle.edits.specs.Ends.{Joins, AreJoined};
-ghost use Rattle.edits.specs.Triangles.{IsIncentre, IsFootBetween};
 ghost use Rattle.edits.specs.Foldable.{HasSides, IsFoldable};
 ghost use Rattle.edits.specs.RabbitEar.{marked, countermarked, IsEar, EarOf};
 

@@ -1,6 +1,6 @@
 //! Rays: which points are on one, and which segments run along one.
 ghost use Rattle.std.specs.Prelude.{◌≤◌, ◌<◌, ◌⊎◌, IsTrue, ◌↔◌};
-ghost use Rattle.edits.specs.Rays.{OnRay, RunsAlong};
+ghost use Rattle.geometry.specs.Rays.{OnRay, RunsAlong};
 
 use plane::{Point, Seg, is_before, on, side};
 use qroot2::{Dir, Sign};

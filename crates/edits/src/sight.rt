@@ -3,7 +3,7 @@ ghost use Rattle.std.specs.Prelude.{◌≡◌, ◌≢◌, ℕ, ◌%◌, ◌<◌,
 ghost use Rattle.exact.specs.Plane.{IsPointCanonical, vector};
 ghost use Rattle.geometry.specs.Gap.{cross, det};
 ghost use Rattle.geometry.specs.Meeting.{Along as IsAlong, SameSide};
-ghost use Rattle.edits.specs.Rays.{RunsAlong};
+ghost use Rattle.geometry.specs.Rays.{RunsAlong};
 ghost use Rattle.edits.specs.Sights.{Sees, IsNearer, AreBoth};
 
 use crate::rays::{is_on_ray, leads_on, runs_along};

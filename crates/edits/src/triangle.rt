@@ -5,8 +5,8 @@ ghost use Rattle.sheet.specs.Sheet.{InSheet};
 ghost use Rattle.sheet.specs.declared.mark.Mark.{Mark as AnyMark};
 ghost use Rattle.qroot2.specs.Dir.{IsMiddle};
 ghost use Rattle.plane.specs.Sides.{IsOnLine};
+ghost use Rattle.plane.specs.Triangles.{IsIncentre, IsFootBetween};
 ghost use Rattle.edits.specs.Ends.{AreJoined};
-ghost use Rattle.edits.specs.Triangles.{IsIncentre, IsFootBetween};
 ghost use Rattle.edits.specs.RabbitEar.{AreNotThree, AreAllJoined, IsNoMolecule, EarOf};
 ghost use Rattle.edits.specs.Foldable.{HasSides, HasOddTurn, IsFoldable, IsMolecule};
 

@@ -1,11 +1,11 @@
 -- Signs in the ring: products of numbers above zero, and no zero divisors.
 use Rattle.std.proofs.Common.{◌≡◌, ℕ, zero, suc, ◌+◌, ◌-◌, ◌*◌, ◌<◌, [], ◌∷◌, arith, refl, sym, ap, subst, ◌∙◌, ◌⊎◌, inl, inr}
-use Rattle.std.specs.Prelude.{ℤ, pos, negsuc, neg_ℤ, ◌+ℤ◌, ◌*ℤ◌}
+use Rattle.std.specs.Prelude.{ℤ, pos, negsuc, ◌+ℤ◌, ◌*ℤ◌}
 use Rattle.std.proofs.lemmas.Int.{ints}
 use Rattle.exact.specs.Number.{Positive}
 use Rattle.exact.proofs.Ring.{is_add, is_lit, is_atom, is_mul, is_eq}
 use Rattle.exact.proofs.Root.{side}
-use Rattle.exact.proofs.Positive.{positive_sum, scaled, exclusive, from_high, from_low}
+use Rattle.exact.proofs.Positive.{positive_sum, scaled, exclusive}
 use Rattle.geometry.specs.Root.{Root, plus, times, minus, count, Above}
 use Rattle.geometry.proofs.RootRing.{both, plus_comm, plus_zero, times_comm, times_assoc}
 use Rattle.geometry.proofs.Solve.{at, none, add, mul, opp, solve, times_zero}

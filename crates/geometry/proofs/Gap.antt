@@ -1,5 +1,5 @@
 -- Points and lines by numerators: when two points are one, in order, on one line.
-use Rattle.std.proofs.Common.{◌≡◌, ℕ, zero, suc, ◌*◌, ◌<◌, max, [], ◌∷◌, arith, refl, sym, ap, subst, ◌∙◌, inl, inr}
+use Rattle.std.proofs.Common.{◌≡◌, ℕ, ◌*◌, [], ◌∷◌, arith, refl, sym, ap, subst, ◌∙◌, inl, inr}
 use Rattle.std.specs.Prelude.{ℤ, pos, neg_ℤ, ◌+ℤ◌, ◌-ℤ◌, ◌*ℤ◌, ◌↔◌}
 use Rattle.std.proofs.lemmas.Int.{ints}
 use Rattle.exact.specs.Number.{ExactNumber, Same, Less, Positive, den, sub, mul as mul_exact}
@@ -76,6 +76,11 @@ same_sub x y = (λ s. num_sub y x ∙ none_difference _ _ (sym (same_num x y s))
 -- a factor above zero on the right
 pub out_right : (x y : Root) → Above y → times x y ≡ count 0 → x ≡ count 0
 out_right x y h e = zero_out y x h (times_comm y x ∙ e)
+
+-- equal products with a number above zero
+pub cancel_times : (x y z : Root) → Above z → times x z ≡ times y z → x ≡ y
+cancel_times x y z h e = difference_none x y (out_right _ z h (
+    solve (x ∷ y ∷ z ∷ []) (mul (add (at 0) (opp (at 1))) (at 2)) (add (mul (at 0) (at 2)) (opp (mul (at 1) (at 2)))) refl ∙ none_difference _ _ e))
 
 pub in_right : (x y : Root) → x ≡ count 0 → times x y ≡ count 0
 in_right x y e = ap (λ t. times t y) e ∙ times_comm (count 0) y ∙ times_zero y

@@ -1,8 +1,8 @@
 -- The direction from one point to another, and the opposite one back.
-use Rattle.std.proofs.Common.{◌≡◌, ℕ, suc, ◌+◌, ◌-◌, ◌/◌, ◌%◌, ◌<◌, ◌≤◌, [], ◌∷◌, refl, sym, ap, subst, ◌∙◌, ◌⊎◌, inl, inr, arith}
-use Rattle.std.proofs.lemmas.Bool.{cases_order, cases_lt}
+use Rattle.std.proofs.Common.{◌≡◌, ℕ, suc, ◌+◌, ◌-◌, ◌/◌, ◌%◌, ◌<◌, [], ◌∷◌, refl, sym, ap, subst, ◌∙◌, ◌⊎◌, inl, inr, arith}
+use Rattle.std.proofs.lemmas.Bool.{cases_lt}
 use Rattle.exact.specs.Number.{ExactNumber, Same, sub, mul as mul_exact}
-use Rattle.exact.specs.Plane.{ExactPoint, SamePoint, Before, DirOf, ExactSegment, away, vector, first_vector, quarters}
+use Rattle.exact.specs.Plane.{ExactPoint, SamePoint, DirOf, ExactSegment, away, vector, first_vector, quarters}
 use Rattle.geometry.specs.Root.{Root, plus, times, minus}
 use Rattle.geometry.specs.Gap.{num, dn}
 use Rattle.geometry.specs.Meeting.{Along}

@@ -1,15 +1,13 @@
 -- The order of points is total, and of two points there is a later and an earlier one.
-use Rattle.std.proofs.Common.{◌≡◌, refl, sym, ap, ◌∙◌, ◌⊎◌, inl, inr}
+use Rattle.std.proofs.Common.{◌≡◌, refl, sym, ap, subst, ◌∙◌, ◌⊎◌, inl, inr}
 use Rattle.std.specs.Prelude.{◌↔◌}
 use Rattle.std.specs.declared.cmp.Ordering.{Ordering}
 use Rattle.std.specs.declared.cmp.Ordering.TheVariants as o
 use Rattle.std.specs.Ordering.{on, then_cmp, ordering_then, ordering_reverse}
 use Rattle.std.specs.Cmp.{IsTotalOrder, tied_itself}
 use Rattle.std.proofs.lemmas.Cmp.{on_total, then_total, tied_back, alike_right}
-use Rattle.exact.specs.Number.{ExactNumber, Same, Less}
 use Rattle.exact.specs.Order.{real_cmp}
 use Rattle.exact.specs.Plane.{ExactPoint, SamePoint, Before}
-use Rattle.exact.proofs.Positive.{less_trans}
 use Rattle.exact.proofs.Order.{real_total, real_less, real_equal, less_of, same_of, first_equal}
 use Rattle.geometry.specs.Meeting.{IsLater, IsEarlier}
 
@@ -94,6 +92,13 @@ before_later p a b h n = elim (ordered a b) [
   | inr k ↦ elim k [ inl s ↦ before_same p a b s h | inr g ↦ absurd (n g) ]
 ]
 
+-- p is not after a, and a is before b
+pub not_after_before : (p a b : ExactPoint) → ¬ Before a p → Before a b → Before p b
+not_after_before p a b n h = elim (ordered p a) [
+  | inl l ↦ before_trans p a b l h
+  | inr y ↦ elim y [ inl e ↦ same_before a p b (same_back p a e) h | inr g ↦ absurd (n g) ]
+]
+
 pub later_of : (a b : ExactPoint) → (m : ExactPoint) × IsLater a b m
 later_of a b = elim (ordered a b) [
   | inl l ↦ (b, record { one = inr refl; first = λ r. before_not_back a b l r; second = before_not_itself b })
@@ -104,4 +109,11 @@ pub earlier_of : (a b : ExactPoint) → (m : ExactPoint) × IsEarlier a b m
 earlier_of a b = elim (ordered a b) [
   | inl l ↦ (a, record { one = inl refl; first = before_not_itself a; second = λ r. before_not_back a b l r })
   | inr r ↦ (b, record { one = inr refl; first = not_past a b r; second = before_not_itself b })
+]
+
+-- each of two is before each of two others, so the later of these is before the earlier of those
+pub later_before : (a b c d m n : ExactPoint) → IsLater a b m → IsEarlier c d n → Before a c → Before a d → Before b c → Before b d → Before m n
+later_before a b c d m n l e ac ad bc bd = elim l.one [
+  | inl x ↦ subst (λ z. Before z n) (sym x) (elim e.one [ inl y ↦ subst (λ z. Before a z) (sym y) ac | inr y ↦ subst (λ z. Before a z) (sym y) ad ])
+  | inr x ↦ subst (λ z. Before z n) (sym x) (elim e.one [ inl y ↦ subst (λ z. Before b z) (sym y) bc | inr y ↦ subst (λ z. Before b z) (sym y) bd ])
 ]

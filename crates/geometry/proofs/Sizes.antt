@@ -1,15 +1,14 @@
 -- How large the parts of numbers become under the operations of the ring, and those of points that can be held.
-use Rattle.std.proofs.Common.{◌≡◌, ℕ, zero, suc, ◌+◌, ◌*◌, ◌/◌, ◌%◌, ◌≤◌, ◌^◌, arith, ap, ◌∙◌}
-use Rattle.std.specs.Prelude.{ℤ, pos, negsuc, neg_ℤ, ◌+ℤ◌, ◌*ℤ◌, unsigned_abs}
+use Rattle.std.proofs.Common.{◌≡◌, ℕ, zero, suc, ◌+◌, ◌*◌, ◌/◌, ◌%◌, ◌≤◌, arith, ap, ◌∙◌}
+use Rattle.std.specs.Prelude.{ℤ, pos, negsuc, ◌+ℤ◌, ◌*ℤ◌, unsigned_abs}
 use Rattle.std.proofs.lemmas.Int.{ints, unsigned_abs-mul}
 use Rattle.std.proofs.lemmas.Nat.{mul-le}
-use Rattle.exact.specs.Number.{ExactNumber, IsCanonical, den, sub}
-use Rattle.exact.specs.Plane.{ExactPoint, IsPointCanonical, vector, first_vector, quarters}
+use Rattle.exact.specs.Plane.{ExactPoint, vector, first_vector, quarters}
 use Rattle.geometry.specs.Root.{Root, plus, times, minus, count, size}
-use Rattle.geometry.specs.Gap.{num, dn, gx, gy, det, norm, partner, signed_as}
-use Rattle.geometry.proofs.Gap.{scale, num_sub}
+use Rattle.geometry.specs.Gap.{num, det}
+use Rattle.geometry.proofs.RootRing.{both}
+use Rattle.geometry.proofs.Gap.{scale}
 use Rattle.exact.proofs.Ring.{neg_size}
-use Rattle.exact.proofs.Kept.{tall, den_above}
 
 pub sum_size : (x y : ℤ) → unsigned_abs (x +ℤ y) ≤ unsigned_abs x + unsigned_abs y
 sum_size x y = omega (arith, ints)
@@ -80,3 +79,12 @@ turned_within k x y n h l = (let v = vector_small k in omega (
   times_within (num (vector k).x) y 2 n v.0 l,
   times_within (num (vector k).y) x 2 n v.1 h,
 ))
+
+-- only zero has no size
+pub no_size : (x : Root) → size x ≡ 0 → x ≡ count 0
+unfolding count
+no_size x e = both x (count 0) (abs_zero x.a (omega arith)) (abs_zero x.b (omega arith))
+  where
+    abs_zero : (z : ℤ) → unsigned_abs z ≡ 0 → z ≡ pos 0
+    abs_zero (pos n) e = ap pos e
+    abs_zero (negsuc n) e = absurd (omega arith)

@@ -1,3 +1,4 @@
 pub mod Root
 pub mod Gap
 pub mod Meeting
+pub mod Rays

@@ -8,6 +8,7 @@ use Rattle.geometry.specs.Root.{Root, plus, times, minus, count, size}
 use Rattle.geometry.specs.Gap.{num}
 use Rattle.geometry.proofs.RootRing.{both}
 use Rattle.qroot2.specs.Wide.{Pair, pair_neg}
+use Rattle.qroot2.proofs.callers.Pairs.{by_parts}
 use Rattle.plane.specs.Ways.{root, tilted, IsAlong, IsAhead}
 use Rattle.plane.proofs.Passed.{passed}
 
@@ -17,72 +18,69 @@ parts x y e = (ap (λ (r : Root). r.a) e, ap (λ (r : Root). r.b) e)
 halves : (x y : Pair) → x ≡ y → (x.a ≡ y.a) × (x.b ≡ y.b)
 halves x y e = (ap (λ (p : Pair). p.a) e, ap (λ (p : Pair). p.b) e)
 
-pair : (x y : Pair) → x.a ≡ y.a → x.b ≡ y.b → x ≡ y
-pair x y p q = λ i. record { a = p i; b = q i }
-
 abbrev pub nothing : Pair
 nothing = record { a = pos 0; b = pos 0 }
 
 pub along_0 : (x y : Pair) → IsAlong 0 (root x) (root y) ↔ (y ≡ nothing)
 unfolding plus times minus count num
 along_0 x y = (
-  λ e. (let h = parts _ _ e in pair y nothing (omega (arith, ints, h.0)) (omega (arith, ints, h.1))),
+  λ e. (let h = parts _ _ e in by_parts y nothing (omega (arith, ints, h.0)) (omega (arith, ints, h.1))),
   λ e. (let h = halves _ _ e in both _ _ (omega (arith, ints, h.0, h.1)) (omega (arith, ints, h.0, h.1))),
 )
 
 pub along_4 : (x y : Pair) → IsAlong 4 (root x) (root y) ↔ (x ≡ nothing)
 unfolding plus times minus count num
 along_4 x y = (
-  λ e. (let h = parts _ _ e in pair x nothing (omega (arith, ints, h.0)) (omega (arith, ints, h.1))),
+  λ e. (let h = parts _ _ e in by_parts x nothing (omega (arith, ints, h.0)) (omega (arith, ints, h.1))),
   λ e. (let h = halves _ _ e in both _ _ (omega (arith, ints, h.0, h.1)) (omega (arith, ints, h.0, h.1))),
 )
 
 pub along_2 : (x y : Pair) → IsAlong 2 (root x) (root y) ↔ (y ≡ x)
 unfolding plus times minus count num
 along_2 x y = (
-  λ e. (let h = parts _ _ e in pair y x (omega (arith, ints, h.0)) (omega (arith, ints, h.1))),
+  λ e. (let h = parts _ _ e in by_parts y x (omega (arith, ints, h.0)) (omega (arith, ints, h.1))),
   λ e. (let h = halves _ _ e in both _ _ (omega (arith, ints, h.0, h.1)) (omega (arith, ints, h.0, h.1))),
 )
 
 pub along_14 : (x y : Pair) → IsAlong 14 (root x) (root y) ↔ (y ≡ pair_neg x)
 unfolding plus times minus count num
 along_14 x y = (
-  λ e. (let h = parts _ _ e in pair y (pair_neg x) (omega (arith, ints, h.0)) (omega (arith, ints, h.1))),
+  λ e. (let h = parts _ _ e in by_parts y (pair_neg x) (omega (arith, ints, h.0)) (omega (arith, ints, h.1))),
   λ e. (let h = halves _ _ e in both _ _ (omega (arith, ints, h.0, h.1)) (omega (arith, ints, h.0, h.1))),
 )
 
 pub along_1 : (x y : Pair) → IsAlong 1 (root x) (root y) ↔ (y ≡ tilted x)
 unfolding plus times minus count num
 along_1 x y = (
-  λ e. (let h = parts _ _ e in pair y (tilted x) (omega (arith, ints, h.0)) (omega (arith, ints, h.1))),
+  λ e. (let h = parts _ _ e in by_parts y (tilted x) (omega (arith, ints, h.0)) (omega (arith, ints, h.1))),
   λ e. (let h = halves _ _ e in both _ _ (omega (arith, ints, h.0, h.1)) (omega (arith, ints, h.0, h.1))),
 )
 
 pub along_15 : (x y : Pair) → IsAlong 15 (root x) (root y) ↔ (y ≡ pair_neg (tilted x))
 unfolding plus times minus count num
 along_15 x y = (
-  λ e. (let h = parts _ _ e in pair y (pair_neg (tilted x)) (omega (arith, ints, h.0)) (omega (arith, ints, h.1))),
+  λ e. (let h = parts _ _ e in by_parts y (pair_neg (tilted x)) (omega (arith, ints, h.0)) (omega (arith, ints, h.1))),
   λ e. (let h = halves _ _ e in both _ _ (omega (arith, ints, h.0, h.1)) (omega (arith, ints, h.0, h.1))),
 )
 
 pub along_3 : (x y : Pair) → IsAlong 3 (root x) (root y) ↔ (x ≡ tilted y)
 unfolding plus times minus count num
 along_3 x y = (
-  λ e. (let h = parts _ _ e in pair x (tilted y) (omega (arith, ints, h.0)) (omega (arith, ints, h.1))),
+  λ e. (let h = parts _ _ e in by_parts x (tilted y) (omega (arith, ints, h.0)) (omega (arith, ints, h.1))),
   λ e. (let h = halves _ _ e in both _ _ (omega (arith, ints, h.0, h.1)) (omega (arith, ints, h.0, h.1))),
 )
 
 pub along_13 : (x y : Pair) → IsAlong 13 (root x) (root y) ↔ (x ≡ pair_neg (tilted y))
 unfolding plus times minus count num
 along_13 x y = (
-  λ e. (let h = parts _ _ e in pair x (pair_neg (tilted y)) (omega (arith, ints, h.0)) (omega (arith, ints, h.1))),
+  λ e. (let h = parts _ _ e in by_parts x (pair_neg (tilted y)) (omega (arith, ints, h.0)) (omega (arith, ints, h.1))),
   λ e. (let h = halves _ _ e in both _ _ (omega (arith, ints, h.0, h.1)) (omega (arith, ints, h.0, h.1))),
 )
 
 -- a test whether two pairs are equal
 pairs_told : (x y : Pair) (b : Bool) → b ≡ (int_eq x.a y.a && int_eq x.b y.b) → IsTrue b ↔ (x ≡ y)
 pairs_told x y b e = (
-  λ t. pair x y (first x.a y.a (int_eq x.b y.b) (sym e ∙ t)) (first x.b y.b true (second (int_eq x.a y.a) (int_eq x.b y.b) (sym e ∙ t))),
+  λ t. by_parts x y (first x.a y.a (int_eq x.b y.b) (sym e ∙ t)) (first x.b y.b true (second (int_eq x.a y.a) (int_eq x.b y.b) (sym e ∙ t))),
   λ s. e ∙ both_true _ _ (same x.a y.a (halves x y s).0) (same x.b y.b (halves x y s).1),
 )
   where
@@ -156,4 +154,4 @@ pub lessened_is : (x : Pair) (a b : ℤ) (r : Pair) → a ≡ x.a → b ≡ x.b 
     r ≡ record { a = held (held (pos 2 *ℤ held b) -ℤ held a); b = held (held a -ℤ held b) })
     → r ≡ tilted x
 lessened_is x a b r e f h g = g ∙ rw (e, f, passed x.a (omega (arith, h)), passed x.b (omega (arith, h)), passed (pos 2 *ℤ x.b) (omega (arith, ints, h)))
-    (pair _ _ (passed (pos 2 *ℤ x.b -ℤ x.a) (omega (arith, ints, h))) (passed (x.a -ℤ x.b) (omega (arith, ints, h))))
+    (by_parts _ _ (passed (pos 2 *ℤ x.b -ℤ x.a) (omega (arith, ints, h))) (passed (x.a -ℤ x.b) (omega (arith, ints, h))))

@@ -10,3 +10,14 @@ pub mod Supports
 pub mod Told
 pub mod Turns
 pub mod Zeros
+pub mod Triangles
+pub mod OneIncentre
+pub mod Incentres
+pub mod FootBetween
+pub mod InsideSheet
+pub mod Walls
+pub mod RayCrossings
+pub mod RayTold
+pub mod Exits
+pub mod MirroredVectors
+pub mod MirroredSegments

@@ -9,3 +9,5 @@ pub mod Crossings
 pub mod Meets
 pub mod PointReads
 pub mod Images
+pub mod Triangles
+pub mod Walls

@@ -4,7 +4,7 @@ use qroot2::{Dir, NumText};
 
 // Each row is a point, a point of the line, the line's direction, and the image, where it is in range.
 #[test]
-fn images(rt: HostRuntime) {
+fn points_have_images_in_a_line(rt: HostRuntime) {
     for (point, at, axis, image) in [
         ("1,0", "0,0", 2, "0,1"),
         ("1,0", "0,0", 1, "1r/2,1r/2"),
@@ -35,7 +35,7 @@ fn images(rt: HostRuntime) {
 }
 
 #[test]
-fn point_texts(rt: HostRuntime) {
+fn texts_of_points_are_read_or_refused(rt: HostRuntime) {
     for text in ["0,1/2", "2-1r/2,577-408r/64", "-1+1r,-3"] {
         let Ok(point) = read_point(text.as_bytes()) else {
             assert!(rt; false);

@@ -56,7 +56,7 @@ const TANGENT: [i64; 3] = [-1, 1, 1];
 const LARGE: i64 = 1048576;
 
 #[test]
-fn directions(rt: HostRuntime) {
+fn segments_have_their_directions(rt: HostRuntime) {
     let center = point(&rt, HALF, HALF);
     for (x, y, number) in [
         (ONE, HALF, 0),
@@ -78,7 +78,7 @@ fn directions(rt: HostRuntime) {
 }
 
 #[test]
-fn no_segments(rt: HostRuntime) {
+fn other_pairs_are_no_segments(rt: HostRuntime) {
     let origin = point(&rt, ZERO, ZERO);
     let off = point(&rt, ONE, HALF);
     let hair = point(&rt, ONE, [LARGE - 1, 0, LARGE]);
@@ -89,7 +89,7 @@ fn no_segments(rt: HostRuntime) {
 }
 
 #[test]
-fn lines_of_segments(rt: HostRuntime) {
+fn segments_of_one_line_have_one_support(rt: HostRuntime) {
     let origin = point(&rt, ZERO, ZERO);
     let center = point(&rt, HALF, HALF);
     let corner = point(&rt, ONE, ONE);
@@ -105,7 +105,7 @@ fn lines_of_segments(rt: HostRuntime) {
 }
 
 #[test]
-fn meetings(rt: HostRuntime) {
+fn two_segments_meet_in_one_of_four_ways(rt: HostRuntime) {
     let origin = point(&rt, ZERO, ZERO);
     let right = point(&rt, ONE, ZERO);
     let top = point(&rt, ZERO, ONE);
@@ -132,7 +132,7 @@ fn meetings(rt: HostRuntime) {
 }
 
 #[test]
-fn meetings_in_the_field_of_the_root(rt: HostRuntime) {
+fn segments_meet_in_the_field_of_the_root(rt: HostRuntime) {
     let origin = point(&rt, ZERO, ZERO);
     let flat = seg(&rt, origin, point(&rt, ONE, TANGENT));
     let steep = seg(&rt, origin, point(&rt, TANGENT, ONE));
@@ -153,7 +153,7 @@ fn meetings_in_the_field_of_the_root(rt: HostRuntime) {
 }
 
 #[test]
-fn meetings_by_a_hair(rt: HostRuntime) {
+fn segments_meet_or_miss_by_a_hair(rt: HostRuntime) {
     let falling = seg(&rt, point(&rt, ZERO, ONE), point(&rt, ONE, ZERO));
     let hair = [1, 0, LARGE];
     let next = [LARGE - 1, 0, LARGE];
@@ -169,7 +169,7 @@ fn meetings_by_a_hair(rt: HostRuntime) {
 }
 
 #[test]
-fn sides_of_a_line(rt: HostRuntime) {
+fn points_are_on_one_side_of_a_line(rt: HostRuntime) {
     let origin = point(&rt, ZERO, ZERO);
     let edge = point(&rt, ONE, TANGENT);
     for number in 0..16u8 {
@@ -195,7 +195,7 @@ fn sides_of_a_line(rt: HostRuntime) {
 }
 
 #[test]
-fn places_on_the_square(rt: HostRuntime) {
+fn points_have_places_on_the_square(rt: HostRuntime) {
     let sheet = Sheet::square();
     for (x, y, inside, border) in [
         (HALF, HALF, true, false),
@@ -220,7 +220,7 @@ fn places_on_the_square(rt: HostRuntime) {
 }
 
 #[test]
-fn places_on_a_sheet_of_two_by_one(rt: HostRuntime) {
+fn points_have_places_on_a_sheet_of_two_by_one(rt: HostRuntime) {
     let sheet = Sheet::new(2, 1).expect(&rt, "a sheet");
     for (x, y, inside, border) in [
         (TWO, ONE, true, true),

@@ -6,6 +6,7 @@ use Rattle.geometry.specs.Meeting.{Along}
 use Rattle.geometry.proofs.Directions.{one_direction}
 use Rattle.geometry.proofs.Found.{along_half, along_of}
 use Rattle.geometry.proofs.PointOrder.{ordered, tied, before_trans, before_not_same, same_before, same_back, same_trans, before_later, later_of, earlier_of}
+pub use Rattle.geometry.proofs.PointOrder.{not_after_before}
 use Rattle.geometry.proofs.Segments.{overlapped, one_common, end_p, end_q}
 use Rattle.plane.specs.Support.{ExactLine, IsSupportOf}
 use Rattle.plane.proofs.callers.Supports.{one_support, support_along}
@@ -38,13 +39,6 @@ ended t s n v = v.2 (same_trans v.0 s.p v.1 (at_start v.0 v.3) (same_back v.1 s.
   where
     at_start : (x : ExactPoint) → OnBoth x t s → SamePoint x s.p
     at_start x h = tied x s.p h.1.from (λ b. n (before_later s.p x t.q b h.0.to))
-
--- p is not after a, and a is before b
-pub not_after_before : (p a b : ExactPoint) → ¬ Before a p → Before a b → Before p b
-not_after_before p a b n h = elim (ordered p a) [
-  | inl l ↦ before_trans p a b l h
-  | inr y ↦ elim y [ inl e ↦ same_before a p b (same_back p a e) h | inr g ↦ absurd (n g) ]
-]
 
 -- two points of which one is before the other are on both
 passing : (t s : ExactSegment) (u v : ExactPoint) → Before u v → OnBoth u t s → OnBoth v t s → Before s.p t.q × Before t.p s.q

@@ -15,11 +15,11 @@ use Rattle.geometry.specs.Root.{Root, plus, times, minus, count, size, Above}
 use Rattle.geometry.specs.Gap.{num, dn, gx, gy, cross}
 use Rattle.geometry.proofs.RootRing.{both, plus_comm, plus_zero, plus_minus, times_comm, cancel_plus}
 use Rattle.geometry.proofs.Solve.{at, one, add, mul, opp, solve, times_zero, zero_plus}
-use Rattle.geometry.proofs.Gap.{difference_none, none_difference, num_sub, dn_sub, dn_mul, same_num, num_same, out_right, count_product, dn_one}
+use Rattle.geometry.proofs.Gap.{difference_none, none_difference, num_sub, dn_sub, dn_mul, same_num, num_same, out_right, cancel_times, count_product, dn_one}
 use Rattle.geometry.proofs.Lines.{On, on_from, on_back, on_trans, on_same, one_point, weight, weight_above, chain}
 use Rattle.geometry.proofs.Directions.{not_parallel, vector_whole}
 use Rattle.geometry.proofs.Found.{turn_cross, turn_on}
-use Rattle.geometry.proofs.Sizes.{size_minus, sum_size}
+use Rattle.geometry.proofs.Sizes.{size_minus, sum_size, no_size}
 use Rattle.plane.specs.Sides.{turn_of}
 use Rattle.plane.specs.Crossings.{over, weight_of}
 use Rattle.plane.specs.Images.{AreTurned, IsFoot, IsImage}
@@ -30,11 +30,6 @@ use Rattle.exact.proofs.Turns.{all_below, all_below_at}
 -- the direction a quarter turn on
 abbrev pub aside : ℕ → ℕ
 aside k = (k + 4) % 16
-
--- equal products with a number above zero
-pub cancel_times : (x y z : Root) → Above z → times x z ≡ times y z → x ≡ y
-cancel_times x y z h e = difference_none x y (out_right _ z h (
-    solve (x ∷ y ∷ z ∷ []) (mul (add (at 0) (opp (at 1))) (at 2)) (add (mul (at 0) (at 2)) (opp (mul (at 1) (at 2)))) refl ∙ none_difference _ _ e))
 
 -- two points equally far aside, seen from a third one
 pub gap_same : (u a q r : ExactPoint) → times (cross u a q) (weight r) ≡ times (cross u a r) (weight q) → On u q r
@@ -134,15 +129,6 @@ aside_test k = cond (eqb (size (plus (num (vector (aside k)).x) (num (vector k).
 aside_tested : all_below 16 aside_test ≡ true
 unfolding aside_test num minus plus
 aside_tested = refl
-
--- only zero has no size
-pub no_size : (x : Root) → size x ≡ 0 → x ≡ count 0
-unfolding count
-no_size x e = both x (count 0) (abs_zero x.a (omega arith)) (abs_zero x.b (omega arith))
-  where
-    abs_zero : (z : ℤ) → unsigned_abs z ≡ 0 → z ≡ pos 0
-    abs_zero (pos n) e = ap pos e
-    abs_zero (negsuc n) e = absurd (omega arith)
 
 pub tested : (m n : ℕ) → cond (eqb m 0) (eqb n 0) false ≡ true → (m ≡ 0) × (n ≡ 0)
 tested m n e = (grind (arith, nat_tests), grind (arith, nat_tests))

@@ -54,7 +54,7 @@ cross_terms vx vy px py dpx dpy rx ry drx dry = solve (vx ∷ vy ∷ px ∷ py �
     (add (mul_term (at 0) (mul_term (add (mul_term (at 7) (at 5)) (opp (mul_term (at 3) (at 9)))) (mul_term (at 8) (at 4)))) (opp (mul_term (at 1) (mul_term (add (mul_term (at 6) (at 4)) (opp (mul_term (at 2) (at 8)))) (mul_term (at 9) (at 5)))))) refl
 
 -- the turns to two points differ by the turn of the way between them
-turns_apart : (k : ℕ) (p r : ExactPoint) → plus (times (num (turn (vector k) r)) (dn (turn (vector k) p))) (minus (times (num (turn (vector k) p)) (dn (turn (vector k) r)))) ≡ cross (vector k) p r
+pub turns_apart : (k : ℕ) (p r : ExactPoint) → plus (times (num (turn (vector k) r)) (dn (turn (vector k) p))) (minus (times (num (turn (vector k) p)) (dn (turn (vector k) r)))) ≡ cross (vector k) p r
 turns_apart k p r = rw (turn_num k r, turn_num k p, turn_dn k p, turn_dn k r)
     (cross_terms (num (vector k).x) (num (vector k).y) (num p.x) (num p.y) (dn p.x) (dn p.y) (num r.x) (num r.y) (dn r.x) (dn r.y) ∙ sym (cross_is (vector k) p r))
 

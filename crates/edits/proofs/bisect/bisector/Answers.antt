@@ -1,5 +1,5 @@
 use Rattle.plane.proofs.callers.Told.{fails}
-use Rattle.edits.proofs.Bisected.{halves_outside, halves_no_first, halves_no_second, halves_odd, halves}
+use Rattle.edits.proofs.bisections.Bisected.{halves_outside, halves_no_first, halves_no_second, halves_odd, halves}
 use Rattle.edits.proofs.OnSheet.{within, out_of}
 use Rattle.edits.proofs.bisect.bisector.Goals as goal
 

@@ -2,11 +2,12 @@ use Rattle.std.proofs.Common.{◌≡◌, List, [], ◌∷◌, ◌++◌, sym, sub
 use Rattle.std.proofs.lemmas.List.{append-nil}
 use Rattle.exact.specs.Plane.{ExactSegment}
 use Rattle.sheet.specs.Pattern.{ExactCrease}
+use Rattle.geometry.specs.Rays.{RunsAlong}
 use Rattle.plane.proofs.callers.Told.{fails}
 use Rattle.pattern.proofs.callers.Fronts.{moved}
 use Rattle.pattern.proofs.callers.Told.{answers_no, answers_yes}
-use Rattle.edits.specs.Rays.{RunsAlong, IsCrease}
-use Rattle.edits.proofs.AnyAlong.{None, no_crease, none_pushed, some_crease}
+use Rattle.edits.specs.SidesAndCreases.{IsCrease}
+use Rattle.edits.proofs.bisections.AnyAlong.{None, no_crease, none_pushed, some_crease}
 use Rattle.edits.proofs.bisect.has_crease.Goals as goal
 
 pub loop-crease-init : goal.loop-crease-init

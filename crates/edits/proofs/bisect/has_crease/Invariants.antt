@@ -1,7 +1,8 @@
 use Rattle.std.proofs.Common.{◌≡◌, ◌++◌, List}
 use Rattle.exact.specs.Plane.{ExactSegment}
 use Rattle.sheet.specs.Pattern.{ExactCrease}
-use Rattle.edits.specs.Rays.{RunsAlong, IsCrease}
+use Rattle.geometry.specs.Rays.{RunsAlong}
+use Rattle.edits.specs.SidesAndCreases.{IsCrease}
 use Rattle.edits.proofs.bisect.has_crease.Given as goal
 
 abbrev pub invariant-loop-crease : goal.invariant-loop-crease

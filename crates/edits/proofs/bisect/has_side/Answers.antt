@@ -2,10 +2,10 @@ use Rattle.std.proofs.Common.{◌≡◌, List, get_or, sym, subst}
 use Rattle.std.specs.Prelude.{Contains}
 use Rattle.exact.specs.Plane.{ExactSegment}
 use Rattle.sheet.specs.Sheet.{sides}
+use Rattle.geometry.specs.Rays.{RunsAlong}
 use Rattle.plane.proofs.callers.Told.{fails}
 use Rattle.pattern.proofs.callers.Told.{answers_no, answers_yes}
-use Rattle.edits.specs.Rays.{RunsAlong}
-use Rattle.edits.proofs.AnyAlong.{none_more, none_of_all, some_here}
+use Rattle.edits.proofs.bisections.AnyAlong.{none_more, none_of_all, some_here}
 use Rattle.edits.proofs.bisect.has_side.Goals as goal
 
 pub loop-side-preserved : goal.loop-side-preserved

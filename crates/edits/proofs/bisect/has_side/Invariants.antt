@@ -2,7 +2,7 @@ use Rattle.std.proofs.Common.{◌≡◌, take}
 use Rattle.std.specs.Prelude.{Contains}
 use Rattle.exact.specs.Plane.{ExactSegment}
 use Rattle.sheet.specs.Sheet.{sides}
-use Rattle.edits.specs.Rays.{RunsAlong}
+use Rattle.geometry.specs.Rays.{RunsAlong}
 use Rattle.edits.proofs.bisect.has_side.Given as goal
 
 abbrev pub invariant-loop-side : goal.invariant-loop-side

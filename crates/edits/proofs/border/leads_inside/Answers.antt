@@ -1,9 +1,9 @@
 use Rattle.std.proofs.Common.{sym, subst, ◌∙◌}
 use Rattle.plane.proofs.callers.Told.{fails}
+use Rattle.plane.specs.Walls.{LeadsLeft, LeadsInside}
 use Rattle.pattern.proofs.callers.Told.{answers_not}
-use Rattle.edits.specs.Walls.{LeadsLeft, LeadsInside}
-use Rattle.edits.proofs.border.leads_inside.Goals as goal
 use Rattle.edits.proofs.border.leads_inside.Goals.{then-leads_left, else-leads_left, then-leads_left-2, else-leads_left-2}
+use Rattle.edits.proofs.border.leads_inside.Goals as goal
 
 pub returns-else-leads_left-3 : goal.returns-else-leads_left-3
 returns-else-leads_left-3 c = answers_not c.if-leads_left-2.value (LeadsInside c.args.sheet.now c.args.at.now c.args.dir) c.if-leads_left-3.false (λ h. elim c.if-leads_left-2.branch [

@@ -2,11 +2,11 @@ use Rattle.std.proofs.Common.{◌≡◌, ℕ, ◌<◌, Option, Some, subst}
 use Rattle.std.specs.Prelude.{IsTrue, ◌↔◌, IfSome}
 use Rattle.exact.specs.Plane.{vector}
 use Rattle.geometry.specs.Gap.{cross, det}
-use Rattle.plane.proofs.callers.Turns.{side_cross}
-use Rattle.edits.specs.Walls.{LeadsLeft}
-use Rattle.edits.proofs.RayTold.{plus_told, det_sign}
-use Rattle.edits.proofs.border.leads_left.Goals as goal
 use Rattle.geometry.proofs.Segments.{join}
+use Rattle.plane.proofs.callers.Turns.{side_cross}
+use Rattle.plane.specs.Walls.{LeadsLeft}
+use Rattle.plane.proofs.callers.RayTold.{plus_told, det_sign}
+use Rattle.edits.proofs.border.leads_left.Goals as goal
 
 direction : (o : Option ℕ) (n d : ℕ) → o ≡ Some d → IfSome o (λ m. (m ≡ n) × (n < 16)) → d ≡ n
 direction o n d e h = let k = rw e at h in k.0

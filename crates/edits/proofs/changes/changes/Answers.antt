@@ -2,7 +2,7 @@ use Rattle.std.proofs.Common.{refl, sym, inl, inr}
 use Rattle.pattern.proofs.callers.Told.{refuted, shown}
 use Rattle.pattern.proofs.callers.Leading.{between_fits, between_leads}
 use Rattle.edits.specs.Drafts.{pattern_of}
-use Rattle.edits.proofs.Changing.{unchanged, nothing_without}
+use Rattle.edits.proofs.drafts.Changing.{unchanged, nothing_without}
 use Rattle.edits.proofs.changes.changes.Goals as goal
 
 pub returns-then-is_empty-clause-err : goal.returns-then-is_empty-clause-err

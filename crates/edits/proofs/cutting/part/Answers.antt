@@ -7,7 +7,7 @@ use Rattle.plane.specs.Segments.{HasEnds}
 use Rattle.plane.specs.declared.segment.SegBad.{SegBad}
 use Rattle.plane.specs.declared.segment.SegBad.TheVariants as bad
 use Rattle.edits.specs.Pieces.{IsFromTo}
-use Rattle.edits.proofs.CutPieces.{segment}
+use Rattle.edits.proofs.drawings.CutPieces.{segment}
 use Rattle.edits.proofs.cutting.part.Goals as goal
 
 -- the segment between two points, of which the first is before the second

@@ -1,7 +1,7 @@
 use Rattle.std.proofs.Common.{List, [], sym, subst}
 use Rattle.std.specs.Prelude.{Contains}
 use Rattle.sheet.specs.Pattern.{ExactCrease}
-use Rattle.edits.proofs.Gathered.{AreGathered, none_gathered, gathered_more, gathered_passed, all_gathered}
+use Rattle.edits.proofs.drafts.Gathered.{AreGathered, none_gathered, gathered_more, gathered_passed, all_gathered}
 use Rattle.edits.proofs.draft.left.Goals as goal
 
 pub loop-crease-init : goal.loop-crease-init

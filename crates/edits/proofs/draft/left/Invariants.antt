@@ -1,5 +1,5 @@
 use Rattle.std.specs.Prelude.{Contains}
-use Rattle.edits.proofs.Gathered.{AreGathered}
+use Rattle.edits.proofs.drafts.Gathered.{AreGathered}
 use Rattle.edits.proofs.draft.left.Given as goal
 
 abbrev pub invariant-loop-crease : goal.invariant-loop-crease

@@ -4,9 +4,9 @@ use Rattle.edits.specs.Drafts.{pattern_of}
 use Rattle.edits.specs.Rules.{Gives}
 use Rattle.edits.specs.Drawn.{Drawn, Counted}
 use Rattle.edits.proofs.Answering.{then_ok, then_err}
-use Rattle.edits.proofs.CutPieces.{if_ok}
-use Rattle.edits.proofs.DraftLists.{made_of}
-use Rattle.edits.proofs.StillKeys.{drawn_pattern}
+use Rattle.edits.proofs.drawings.CutPieces.{if_ok}
+use Rattle.edits.proofs.drafts.DraftLists.{made_of}
+use Rattle.edits.proofs.drawings.StillKeys.{drawn_pattern}
 use Rattle.edits.proofs.drawing.draw_one.Goals as goal
 
 pub returns-clause-ok : goal.returns-clause-ok

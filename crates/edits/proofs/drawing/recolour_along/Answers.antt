@@ -1,6 +1,6 @@
 use Rattle.std.proofs.Common.{◌≤◌, length, refl, inl}
-use Rattle.pattern.proofs.callers.Told.{refuted, shown}
 use Rattle.sheet.specs.Pattern.{IsPattern, crease_limit}
+use Rattle.pattern.proofs.callers.Told.{refuted, shown}
 use Rattle.edits.specs.Drafts.{pattern_of}
 use Rattle.edits.specs.Rules.{Gives, Then}
 use Rattle.edits.specs.CreaseSet.{AreCreases}
@@ -9,9 +9,9 @@ use Rattle.edits.specs.Erase.{IsBare}
 use Rattle.edits.specs.Recolour.{StandsRecoloured}
 use Rattle.edits.specs.declared.refusal.EditBad.TheVariants as bad
 use Rattle.edits.proofs.Answering.{then_ok, then_err, unless_ok, unless_err}
-use Rattle.edits.proofs.CutPieces.{if_ok}
-use Rattle.edits.proofs.DraftLists.{made_of}
-use Rattle.edits.proofs.StillPatterns.{recoloured_pattern}
+use Rattle.edits.proofs.drawings.CutPieces.{if_ok}
+use Rattle.edits.proofs.drafts.DraftLists.{made_of}
+use Rattle.edits.proofs.drawings.StillPatterns.{recoloured_pattern}
 use Rattle.edits.proofs.drawing.recolour_along.Goals as goal
 
 pub returns-then-branch-clause-err : goal.returns-then-branch-clause-err

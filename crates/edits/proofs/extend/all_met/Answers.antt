@@ -5,10 +5,10 @@ use Rattle.sheet.specs.Sheet.{ExactSheet, sides}
 use Rattle.sheet.specs.Pattern.{ExactCrease}
 use Rattle.pattern.proofs.callers.Fronts.{moved}
 use Rattle.edits.specs.Drafts.{with_creases}
-use Rattle.edits.specs.Rays.{IsSideOrCrease}
+use Rattle.edits.specs.SidesAndCreases.{IsSideOrCrease}
 use Rattle.edits.specs.Sights.{Sees}
-use Rattle.edits.proofs.OneSegment.{IsIt}
-use Rattle.edits.proofs.AllMet.{see_sides, see_crease}
+use Rattle.edits.proofs.extensions.OneSegment.{IsIt}
+use Rattle.edits.proofs.extensions.AllMet.{see_sides, see_crease}
 use Rattle.edits.proofs.extend.all_met.Goals as goal
 
 pub loop-crease-init : goal.loop-crease-init

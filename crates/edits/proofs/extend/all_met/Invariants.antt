@@ -1,7 +1,7 @@
 use Rattle.std.proofs.Common.{◌≡◌, ◌++◌, List}
 use Rattle.sheet.specs.Pattern.{ExactCrease}
 use Rattle.edits.specs.Drafts.{with_creases}
-use Rattle.edits.specs.Rays.{IsSideOrCrease}
+use Rattle.edits.specs.SidesAndCreases.{IsSideOrCrease}
 use Rattle.edits.specs.Sights.{Sees}
 use Rattle.edits.proofs.extend.all_met.Given as goal
 

@@ -1,7 +1,7 @@
 use Rattle.plane.proofs.callers.Told.{fails}
+use Rattle.plane.proofs.callers.Exits.{missed}
 use Rattle.edits.proofs.OnSheet.{within, out_of, inwards, not_inwards}
-use Rattle.edits.proofs.Exits.{missed}
-use Rattle.edits.proofs.Extended.{says_outside, says_border, says_covered, says_range, says_first, meets_some, first_key}
+use Rattle.edits.proofs.extensions.Extended.{says_outside, says_border, says_covered, says_range, says_first, meets_some, first_key}
 use Rattle.edits.proofs.extend.extension.Goals as goal
 
 pub returns-then-not-in_sheet-clause-is : goal.returns-then-not-in_sheet-clause-is

@@ -1,7 +1,7 @@
 use Rattle.std.proofs.Common.{ℕ, ◌<◌, subst}
 use Rattle.std.proofs.lemmas.Result.{IfOk-at_ok}
 use Rattle.plane.specs.Segments.{IsHeld}
-use Rattle.edits.proofs.Extended.{ray_makes}
+use Rattle.edits.proofs.extensions.Extended.{ray_makes}
 use Rattle.edits.proofs.extend.segment_to.Goals as goal
 
 pub unwrap-requires : goal.unwrap-requires

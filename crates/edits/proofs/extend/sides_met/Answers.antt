@@ -2,8 +2,8 @@ use Rattle.std.proofs.Common.{ℕ, ◌≡◌, ◌<◌, List, get_or, sym, subst}
 use Rattle.exact.specs.Plane.{ExactSegment}
 use Rattle.sheet.specs.Sheet.{sides}
 use Rattle.edits.specs.Sights.{Sees}
-use Rattle.edits.proofs.OneSegment.{IsIt}
-use Rattle.edits.proofs.AllMet.{see_more, see_all}
+use Rattle.edits.proofs.extensions.OneSegment.{IsIt}
+use Rattle.edits.proofs.extensions.AllMet.{see_more, see_all}
 use Rattle.edits.proofs.extend.sides_met.Goals as goal
 
 pub loop-side-preserved : goal.loop-side-preserved

@@ -1,15 +1,15 @@
 use Rattle.std.proofs.Common.{◌≡◌, ◌∙◌, ◌++◌, ◌∷◌, [], List, refl, ap, sym, subst}
 use Rattle.std.specs.Prelude.{All}
 use Rattle.exact.specs.Plane.{ExactSegment, Overlap}
-use Rattle.plane.specs.Segments.{IsHeld}
 use Rattle.sheet.specs.Pattern.{ExactCrease}
+use Rattle.plane.specs.Segments.{IsHeld}
+use Rattle.creases.specs.Standing.{AreStanding}
 use Rattle.pattern.proofs.callers.Fronts.{moved}
 use Rattle.edits.specs.Drafts.{ExactDraft}
-use Rattle.creases.specs.Standing.{AreStanding}
-use Rattle.edits.proofs.CutPieces.{held_of, taken_apart}
-use Rattle.edits.proofs.DraftLists.{standing_of}
-use Rattle.edits.proofs.Flipping.{AreHalf, half_start, half_there, half_next, half_end, is_flipped}
-use Rattle.edits.proofs.StillApart.{covers_itself}
+use Rattle.edits.proofs.drawings.CutPieces.{held_of, taken_apart}
+use Rattle.edits.proofs.drafts.DraftLists.{standing_of}
+use Rattle.edits.proofs.flips.Flipping.{AreHalf, half_start, half_there, half_next, half_end, is_flipped}
+use Rattle.edits.proofs.drawings.StillApart.{covers_itself}
 use Rattle.edits.proofs.flip.flipped_draft.Goals as goal
 
 pub loop-crease-init : goal.loop-crease-init

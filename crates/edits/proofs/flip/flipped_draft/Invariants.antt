@@ -1,7 +1,7 @@
 use Rattle.std.proofs.Common.{◌≡◌, ◌++◌, List}
 use Rattle.sheet.specs.Pattern.{ExactCrease}
 use Rattle.creases.specs.Standing.{AreStanding}
-use Rattle.edits.proofs.Flipping.{AreHalf}
+use Rattle.edits.proofs.flips.Flipping.{AreHalf}
 use Rattle.edits.proofs.flip.flipped_draft.Given as goal
 
 abbrev pub invariant-loop-crease : goal.invariant-loop-crease

@@ -1,4 +1,4 @@
-use Rattle.edits.proofs.Overlapping.{front_part, back_part, only_parts}
+use Rattle.edits.proofs.drawings.Overlapping.{front_part, back_part, only_parts}
 use Rattle.edits.proofs.laws.parts_are_two.Goals as goal
 
 pub returns : goal.returns

@@ -1,5 +1,5 @@
-use Rattle.edits.proofs.StillKeys.{drawn_pattern}
-use Rattle.edits.proofs.StillPatterns.{erased_pattern, recoloured_pattern}
+use Rattle.edits.proofs.drawings.StillKeys.{drawn_pattern}
+use Rattle.edits.proofs.drawings.StillPatterns.{erased_pattern, recoloured_pattern}
 use Rattle.edits.proofs.laws.patterns_are_kept.Goals as goal
 
 pub returns : goal.returns

@@ -3,7 +3,7 @@ use Rattle.sheet.specs.Pattern.{ExactCrease}
 use Rattle.pattern.proofs.callers.Fronts.{taken_pattern, moved}
 use Rattle.pattern.proofs.callers.Told.{refuted, shown}
 use Rattle.edits.specs.Mirror.{IsConcerned}
-use Rattle.edits.proofs.KeptCreases.{AreKept, kept_more, kept_passed, kept_creases}
+use Rattle.edits.proofs.mirrors.KeptCreases.{AreKept, kept_more, kept_passed, kept_creases}
 use Rattle.edits.proofs.mirror.concerned.Goals as goal
 
 pub loop-crease-preserved-in-Continue-1 : goal.loop-crease-preserved-in-Continue-1

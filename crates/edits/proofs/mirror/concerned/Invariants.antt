@@ -1,7 +1,7 @@
 use Rattle.std.proofs.Common.{◌≡◌, ◌++◌, List}
 use Rattle.sheet.specs.Pattern.{ExactCrease}
 use Rattle.edits.specs.Mirror.{IsConcerned}
-use Rattle.edits.proofs.KeptCreases.{AreKept}
+use Rattle.edits.proofs.mirrors.KeptCreases.{AreKept}
 use Rattle.edits.proofs.mirror.concerned.Given as goal
 
 abbrev pub invariant-loop-crease : goal.invariant-loop-crease

@@ -10,7 +10,7 @@ use Rattle.edits.specs.CreaseSet.{crease}
 use Rattle.edits.specs.Ends.{AreInSheet}
 use Rattle.edits.specs.Mirror.{IsSegmentImage, ImageOf}
 use Rattle.edits.specs.declared.refusal.EditBad.TheVariants as bad
-use Rattle.edits.proofs.CreaseImages.{none_out, none_outside, one_outside, none_on_side}
+use Rattle.edits.proofs.mirrors.CreaseImages.{none_out, none_outside, one_outside, none_on_side}
 use Rattle.edits.proofs.mirror.image_of.Goals as goal
 
 -- what is told of the image u of a crease on s, by its ends

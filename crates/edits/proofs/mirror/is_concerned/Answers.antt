@@ -1,4 +1,4 @@
-use Rattle.edits.proofs.LeftSides.{concerned_told}
+use Rattle.edits.proofs.mirrors.LeftSides.{concerned_told}
 use Rattle.edits.proofs.mirror.is_concerned.Goals as goal
 
 pub returns : goal.returns

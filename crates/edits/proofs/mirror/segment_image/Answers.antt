@@ -2,9 +2,9 @@ use Rattle.std.proofs.Common.{◌≡◌, ◌<◌, ℕ, arith, subst, sym, inl, i
 use Rattle.exact.specs.Plane.{ExactPoint, ExactSegment, IsSegment, IsPointRepresentable}
 use Rattle.plane.specs.Images.{IsImage}
 use Rattle.plane.specs.Segments.{HasEnds}
+use Rattle.plane.proofs.callers.MirroredSegments.{joined_ok}
+use Rattle.plane.proofs.callers.MirroredVectors.{some_image}
 use Rattle.edits.specs.Mirror.{IsEndImage, IsSegmentImage}
-use Rattle.edits.proofs.MirroredSegments.{joined_ok}
-use Rattle.edits.proofs.MirroredVectors.{some_image}
 use Rattle.edits.proofs.mirror.segment_image.Goals as goal
 
 small : (k n : ℕ) → n ≡ k → n < 16 → k < 16

@@ -1,6 +1,6 @@
 use Rattle.std.proofs.Common.{◌∙◌}
 use Rattle.sheet.specs.Pattern.{ExactCrease, IsKey}
-use Rattle.edits.proofs.EarFound.{is_ear, all_four, centre_found, foot_found}
+use Rattle.edits.proofs.ears.Found.{is_ear, all_four, centre_found, foot_found}
 use Rattle.edits.proofs.rabbit_ear.ear.Goals as goal
 
 pub spoke-requires : goal.spoke-requires

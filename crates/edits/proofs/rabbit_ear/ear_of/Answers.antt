@@ -1,4 +1,4 @@
-use Rattle.edits.proofs.EarFound.{ear_found, no_foot, no_centre}
+use Rattle.edits.proofs.ears.Found.{ear_found, no_foot, no_centre}
 use Rattle.edits.proofs.rabbit_ear.ear_of.Goals as goal
 
 pub returns-in_default-clause-err : goal.returns-in_default-clause-err

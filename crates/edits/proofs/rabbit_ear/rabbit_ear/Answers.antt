@@ -1,5 +1,5 @@
 use Rattle.std.proofs.lemmas.Result.{err_from_is_err_and}
-use Rattle.edits.proofs.EarFound.{moved_ok, moved_err}
+use Rattle.edits.proofs.ears.Found.{moved_ok, moved_err}
 use Rattle.edits.proofs.rabbit_ear.rabbit_ear.Goals as goal
 
 pub returns-in_err-triangle-clause-err : goal.returns-in_err-triangle-clause-err

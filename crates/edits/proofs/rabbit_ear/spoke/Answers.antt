@@ -1,7 +1,7 @@
 use Rattle.std.proofs.lemmas.Result.{IfOk-at_ok}
 use Rattle.exact.specs.Plane.{ExactSegment, IsSegment}
 use Rattle.plane.specs.Segments.{HasEnds, IsHeld}
-use Rattle.edits.proofs.EarCreases.{inner_key, makes_joined}
+use Rattle.edits.proofs.ears.Creases.{inner_key, makes_joined}
 use Rattle.edits.proofs.rabbit_ear.spoke.Goals as goal
 
 pub unwrap-seg-requires : goal.unwrap-seg-requires

@@ -1,8 +1,8 @@
 use Rattle.std.proofs.Common.{sym, ◌∙◌, inl, inr}
+use Rattle.geometry.specs.Rays.{OnRay}
 use Rattle.plane.proofs.callers.Told.{fails}
+use Rattle.plane.proofs.callers.RayTold.{on_line, off_line, on_told, back_told, half_low, half_high}
 use Rattle.pattern.proofs.callers.Told.{answers_no}
-use Rattle.edits.specs.Rays.{OnRay}
-use Rattle.edits.proofs.RayTold.{on_line, off_line, on_told, back_told, half_low, half_high}
 use Rattle.edits.proofs.rays.is_on_ray.Goals as goal
 
 pub returns-in-Zero : goal.returns-in-Zero

@@ -1,9 +1,9 @@
 use Rattle.std.proofs.Common.{eqb-true, sym, ◌∙◌}
+use Rattle.geometry.proofs.RunsTold.{back_told, back_not}
 use Rattle.plane.proofs.callers.Meets.{along_told}
 use Rattle.plane.proofs.callers.Told.{fails}
-use Rattle.edits.proofs.RunsTold.{back_told, back_not}
-use Rattle.edits.proofs.rays.runs_back.Goals as goal
 use Rattle.edits.proofs.rays.runs_back.Goals.{then-number, else-number}
+use Rattle.edits.proofs.rays.runs_back.Goals as goal
 
 pub returns-then-on : goal.returns-then-on
 returns-then-on c = elim c.if-number.branch [

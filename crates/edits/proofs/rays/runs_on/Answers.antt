@@ -1,9 +1,9 @@
 use Rattle.std.proofs.Common.{◌<◌, eqb-true, sym, ◌∙◌, ◌⊎◌, arith}
+use Rattle.geometry.proofs.RunsTold.{runs_told, runs_not}
 use Rattle.plane.proofs.callers.Meets.{along_told}
 use Rattle.plane.proofs.callers.Told.{fails}
-use Rattle.edits.proofs.RunsTold.{runs_told, runs_not}
-use Rattle.edits.proofs.rays.runs_on.Goals as goal
 use Rattle.edits.proofs.rays.runs_on.Goals.{then-number, else-number}
+use Rattle.edits.proofs.rays.runs_on.Goals as goal
 
 pub returns-then-on : goal.returns-then-on
 returns-then-on c = elim c.if-number.branch [

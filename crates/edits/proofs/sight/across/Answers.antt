@@ -1,9 +1,10 @@
 use Rattle.std.proofs.Common.{sym, subst, inl, inr}
+use Rattle.geometry.proofs.RayMeets.{Faces, across_none}
 use Rattle.plane.proofs.callers.Told.{fails}
 use Rattle.plane.proofs.callers.Beside.{beside_turns}
-use Rattle.edits.proofs.OneSegment.{Faces, none_of_it, across_none, across_at, across_lost}
-use Rattle.edits.proofs.sight.across.Goals as goal
+use Rattle.edits.proofs.extensions.OneSegment.{none_of_it, across_at, across_lost}
 use Rattle.edits.proofs.sight.across.Goals.{then-not-faces-via-then-not-faces, then-not-faces-via-else-not-faces+then-is_beside}
+use Rattle.edits.proofs.sight.across.Goals as goal
 
 pub returns-then-not-faces : goal.returns-then-not-faces
 returns-then-not-faces c = none_of_it c.args.at.now c.args.dir c.args.seg.now (across_none c.args.at.now c.args.dir c.args.line c.args.seg.now c.requires.small c.requires.along c.requires.across

@@ -1,6 +1,6 @@
-use mathlib.Core.Bool.{beq}
 use Rattle.std.proofs.Common.{◌≡◌, Bool, true, false, refl}
-use Rattle.edits.proofs.RayOrder.{nearer_told, other_told}
+use mathlib.Core.Bool.{beq}
+use Rattle.edits.proofs.extensions.Nearer.{nearer_told, other_told}
 use Rattle.edits.proofs.sight.nearer.Goals as goal
 
 equal : (a b : Bool) → beq a b ≡ true → a ≡ b

@@ -1,5 +1,5 @@
 use Rattle.plane.proofs.callers.Told.{fails}
-use Rattle.edits.proofs.OneSegment.{parallel_first, parallel_none}
+use Rattle.edits.proofs.extensions.OneSegment.{parallel_first, parallel_none}
 use Rattle.edits.proofs.sight.parallel.Goals as goal
 
 pub returns-then-is_on_ray : goal.returns-then-is_on_ray

@@ -1,4 +1,4 @@
-use Rattle.edits.proofs.EarRules.{sides_joined, outside, not_three, not_joined, no_molecule}
+use Rattle.edits.proofs.ears.Rules.{sides_joined, outside, not_three, not_joined, no_molecule}
 use Rattle.edits.proofs.triangle.foldable_sides.Goals as goal
 
 pub returns-then-not-are_three_in-clause-err : goal.returns-then-not-are_three_in-clause-err

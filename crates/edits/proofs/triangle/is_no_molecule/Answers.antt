@@ -1,5 +1,5 @@
 use Rattle.std.proofs.Common.{inl, inr}
-use Rattle.edits.proofs.EarRules.{molecule_told}
+use Rattle.edits.proofs.ears.Rules.{molecule_told}
 use Rattle.edits.proofs.triangle.is_no_molecule.Goals as goal
 
 pub returns-then-is_on_line : goal.returns-then-is_on_line

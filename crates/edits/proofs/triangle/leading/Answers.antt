@@ -1,4 +1,4 @@
-use Rattle.edits.proofs.EarCreases.{none_joined, leads_between}
+use Rattle.edits.proofs.ears.Creases.{none_joined, leads_between}
 use Rattle.edits.proofs.triangle.leading.Goals as goal
 
 pub returns-in-Ok-clause-some : goal.returns-in-Ok-clause-some

@@ -1,7 +1,7 @@
 use Rattle.std.proofs.Common.{◌≡◌, ap, ◌∙◌}
 use Rattle.sheet.specs.Pattern.{ExactCrease}
 use Rattle.edits.specs.Pieces.{IsPiece, Replaced}
-use Rattle.edits.proofs.CutPieces.{Put, segment_moved, from_to_moved, put_moved, front_segment, back_segment, front_may, back_may, cut_replaced, if_ok}
+use Rattle.edits.proofs.drawings.CutPieces.{Put, segment_moved, from_to_moved, put_moved, front_segment, back_segment, front_may, back_may, cut_replaced, if_ok}
 use Rattle.edits.proofs.draft.Draft.cut.Goals as goal
 
 pub part-requires : goal.part-requires

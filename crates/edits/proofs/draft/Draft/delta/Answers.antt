@@ -3,8 +3,8 @@ use Rattle.sheet.specs.Pattern.{ExactCrease}
 use Rattle.creases.specs.Standing.{AreStanding}
 use Rattle.pattern.specs.Deltas.{IsBetween}
 use Rattle.edits.specs.Drafts.{ExactDraft}
-use Rattle.edits.proofs.Beside.{stand_standing}
-use Rattle.edits.proofs.BesideSteps.{is_between}
+use Rattle.edits.proofs.drafts.Beside.{stand_standing}
+use Rattle.edits.proofs.drafts.BesideSteps.{is_between}
 use Rattle.edits.proofs.draft.Draft.delta.Goals as goal
 
 pub returns-in_err-listed-clause-standing : goal.returns-in_err-listed-clause-standing

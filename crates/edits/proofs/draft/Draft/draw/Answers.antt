@@ -1,8 +1,8 @@
 use Rattle.std.proofs.Common.{refl, subst}
 use Rattle.sheet.specs.Pattern.{ExactCrease}
 use Rattle.edits.specs.Drawn.{Drawn}
-use Rattle.edits.proofs.CutPieces.{if_ok}
-use Rattle.edits.proofs.CutAll.{left_apart, drawn_lists}
+use Rattle.edits.proofs.drawings.CutPieces.{if_ok}
+use Rattle.edits.proofs.drawings.CutAll.{left_apart, drawn_lists}
 use Rattle.edits.proofs.draft.Draft.draw.Goals as goal
 
 pub put_in-requires-clause-apart : goal.put_in-requires-clause-apart

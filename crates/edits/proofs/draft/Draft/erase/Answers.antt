@@ -1,9 +1,9 @@
-use Rattle.edits.specs.CreaseSet.{AreCreases}
 use Rattle.creases.specs.Standing.{AreStanding}
+use Rattle.edits.specs.CreaseSet.{AreCreases}
 use Rattle.edits.specs.Drawn.{IsLeft}
 use Rattle.edits.specs.Pieces.{AreCut, IsPiece, AllReplaced}
-use Rattle.edits.proofs.CutPieces.{if_both_ok}
-use Rattle.edits.proofs.CutAll.{are_cut, erased_lists}
+use Rattle.edits.proofs.drawings.CutPieces.{if_both_ok}
+use Rattle.edits.proofs.drawings.CutAll.{are_cut, erased_lists}
 use Rattle.edits.proofs.draft.Draft.erase.Goals as goal
 
 pub cut_all-requires : goal.cut_all-requires

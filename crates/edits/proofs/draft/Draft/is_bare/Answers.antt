@@ -2,7 +2,7 @@ use Rattle.std.proofs.Common.{◌≡◌, ℕ, List, [], Bool, length, ap, sym, �
 use Rattle.std.proofs.lemmas.List.{nil_from_length}
 use Rattle.std.specs.Prelude.{◌↔◌, IsTrue}
 use Rattle.sheet.specs.Pattern.{ExactCrease}
-use Rattle.edits.proofs.CutAll.{bare_where_empty}
+use Rattle.edits.proofs.drawings.CutAll.{bare_where_empty}
 use Rattle.edits.proofs.draft.Draft.is_bare.Goals as goal
 
 told : (b : Bool) (n : ℕ) (xs : List ExactCrease) (P : Type 0) → b ≡ eqb n 0 → length xs ≡ n → (xs ≡ []) ↔ P → IsTrue b ↔ P

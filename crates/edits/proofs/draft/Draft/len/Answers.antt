@@ -2,7 +2,7 @@ use Rattle.std.proofs.Common.{◌≡◌, length, ap, subst, arith}
 use Rattle.creases.specs.Standing.{AreStanding}
 use Rattle.edits.specs.Beside.{standing}
 use Rattle.edits.specs.Drafts.{ExactDraft}
-use Rattle.edits.proofs.Beside.{left_count, stand_count, stand_standing}
+use Rattle.edits.proofs.drafts.Beside.{left_count, stand_count, stand_standing}
 use Rattle.edits.proofs.draft.Draft.len.Goals as goal
 
 pub overflow_sub-result : goal.overflow_sub-result

@@ -1,5 +1,5 @@
 use Rattle.edits.specs.Beside.{put_all, leave_all}
-use Rattle.edits.proofs.Beside.{none_beside}
+use Rattle.edits.proofs.drafts.Beside.{none_beside}
 use Rattle.edits.proofs.draft.Draft.of.Goals as goal
 
 pub invariant_of-result : goal.invariant_of-result

@@ -6,9 +6,9 @@ use Rattle.creases.specs.Standing.{AreStanding}
 use Rattle.creases.proofs.callers.Standing.{along_once}
 use Rattle.edits.specs.Beside.{standing}
 use Rattle.edits.specs.Drafts.{ExactDraft}
-use Rattle.edits.proofs.Beside.{stand_standing}
-use Rattle.edits.proofs.BesideSteps.{come_gathered}
-use Rattle.edits.proofs.Gathered.{AreGathered, gathered_more, all_gathered}
+use Rattle.edits.proofs.drafts.Beside.{stand_standing}
+use Rattle.edits.proofs.drafts.BesideSteps.{come_gathered}
+use Rattle.edits.proofs.drafts.Gathered.{AreGathered, gathered_more, all_gathered}
 use Rattle.edits.proofs.draft.Draft.overlapped.Goals as goal
 
 pub left-requires : goal.left-requires

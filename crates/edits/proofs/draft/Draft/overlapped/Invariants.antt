@@ -1,6 +1,6 @@
 use Rattle.std.specs.Prelude.{Contains}
 use Rattle.exact.specs.Plane.{Overlap}
-use Rattle.edits.proofs.Gathered.{AreGathered}
+use Rattle.edits.proofs.drafts.Gathered.{AreGathered}
 use Rattle.edits.proofs.draft.Draft.overlapped.Given as goal
 
 abbrev pub invariant-loop-crease : goal.invariant-loop-crease

@@ -1,5 +1,4 @@
 use Rattle.std.proofs.Common.{◌≡◌, ◌≢◌, Bool, true, false, sym, subst, ap, ◌∙◌, rules}
-use denote.Enum.Bare.{sameb, same_true}
 use Rattle.exact.specs.Plane.{ExactPoint, ExactSegment}
 use Rattle.sheet.specs.Pattern.{ExactCrease}
 use Rattle.sheet.specs.declared.colour.Colour.{Colour}
@@ -7,8 +6,9 @@ use Rattle.sheet.specs.contracts.Colour.{the_type}
 use Rattle.geometry.specs.Meeting.{IsLater, IsEarlier}
 use Rattle.creases.proofs.callers.Members.{colour_itself}
 use Rattle.edits.specs.Pieces.{IsRecoloured, Replaced}
-use Rattle.edits.proofs.CutPieces.{Put, if_ok}
-use Rattle.edits.proofs.PaintPieces.{AreShared, kept_replaced, shared_segment, common_may, painted_replaced}
+use denote.Enum.Bare.{sameb, same_true}
+use Rattle.edits.proofs.drawings.CutPieces.{Put, if_ok}
+use Rattle.edits.proofs.drawings.PaintPieces.{AreShared, kept_replaced, shared_segment, common_may, painted_replaced}
 use Rattle.edits.proofs.draft.Draft.paint.Goals as goal
 
 same_colour : (a b c : Colour) (r : Bool) → a ≡ c → r ≡ sameb the_type a b → r ≡ true → c ≡ b

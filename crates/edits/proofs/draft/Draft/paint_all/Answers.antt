@@ -1,7 +1,7 @@
 use Rattle.std.proofs.Common.{refl, subst, ◌∙◌}
 use Rattle.std.proofs.lemmas.List.{take_all}
 use Rattle.edits.specs.Pieces.{IsRecoloured, AllReplaced}
-use Rattle.edits.proofs.CutAll.{none_replaced, next_cut, next_replaced, recoloured_on}
+use Rattle.edits.proofs.drawings.CutAll.{none_replaced, next_cut, next_replaced, recoloured_on}
 use Rattle.edits.proofs.draft.Draft.paint_all.Goals as goal
 
 pub loop-crease-init : goal.loop-crease-init

@@ -5,8 +5,8 @@ use Rattle.plane.proofs.callers.Told.{fails}
 use Rattle.creases.specs.Creases.{AreWith, IsFree}
 use Rattle.edits.specs.Beside.{standing, AreBeside}
 use Rattle.edits.specs.Drafts.{ExactDraft}
-use Rattle.edits.proofs.Beside.{stand_standing}
-use Rattle.edits.proofs.BesideSteps.{back_beside, back_members, come_free, come_beside, come_members}
+use Rattle.edits.proofs.drafts.Beside.{stand_standing}
+use Rattle.edits.proofs.drafts.BesideSteps.{back_beside, back_members, come_free, come_beside, come_members}
 use Rattle.edits.proofs.draft.Draft.put_in.Goals as goal
 
 pub invariant_of-self : goal.invariant_of-self

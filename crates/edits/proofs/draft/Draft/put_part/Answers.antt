@@ -4,7 +4,7 @@ use Rattle.exact.specs.Plane.{ExactSegment}
 use Rattle.sheet.specs.Pattern.{ExactCrease}
 use Rattle.sheet.specs.declared.colour.Colour.{Colour}
 use Rattle.edits.specs.CreaseSet.{crease}
-use Rattle.edits.proofs.CutPieces.{Put, if_ok}
+use Rattle.edits.proofs.drawings.CutPieces.{Put, if_ok}
 use Rattle.edits.proofs.draft.Draft.put_part.Goals as goal
 
 -- the crease that came is named last

@@ -1,9 +1,9 @@
-use Rattle.edits.specs.CreaseSet.{AreCreases}
 use Rattle.creases.specs.Standing.{AreStanding}
+use Rattle.edits.specs.CreaseSet.{AreCreases}
 use Rattle.edits.specs.Recolour.{StandsRecoloured}
 use Rattle.edits.specs.Pieces.{AreCut, IsRecoloured, AllReplaced}
-use Rattle.edits.proofs.CutPieces.{if_both_ok}
-use Rattle.edits.proofs.CutAll.{are_cut, recoloured_lists}
+use Rattle.edits.proofs.drawings.CutPieces.{if_both_ok}
+use Rattle.edits.proofs.drawings.CutAll.{are_cut, recoloured_lists}
 use Rattle.edits.proofs.draft.Draft.recolour.Goals as goal
 
 pub paint_all-requires : goal.paint_all-requires

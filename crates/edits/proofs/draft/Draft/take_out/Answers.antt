@@ -5,8 +5,8 @@ use Rattle.plane.proofs.callers.Told.{fails}
 use Rattle.creases.specs.Creases.{AreBut}
 use Rattle.edits.specs.Beside.{standing, AreBeside}
 use Rattle.edits.specs.Drafts.{ExactDraft}
-use Rattle.edits.proofs.Beside.{stand_standing}
-use Rattle.edits.proofs.BesideSteps.{left_beside, left_members, gone_free, gone_beside, gone_members}
+use Rattle.edits.proofs.drafts.Beside.{stand_standing}
+use Rattle.edits.proofs.drafts.BesideSteps.{left_beside, left_members, gone_free, gone_beside, gone_members}
 use Rattle.edits.proofs.draft.Draft.take_out.Goals as goal
 
 pub invariant_of-self : goal.invariant_of-self

@@ -2,8 +2,8 @@ use Rattle.std.proofs.lemmas.Option.{IfSome_then}
 use Rattle.std.proofs.Common.{ℕ, sym, subst}
 use Rattle.exact.specs.Plane.{ExactPoint, IsPointRepresentable}
 use Rattle.plane.specs.Sides.{IsOnLine}
-use Rattle.edits.specs.Triangles.{IsFootBetween}
-use Rattle.edits.proofs.EarPoints.{foot_of, foot_missing, none_more}
+use Rattle.plane.specs.Triangles.{IsFootBetween}
+use Rattle.edits.proofs.ears.Points.{foot_of, foot_missing, none_more}
 use Rattle.edits.proofs.triangle.Triangle.foot.Goals as goal
 
 pub returns-clause-some : goal.returns-clause-some

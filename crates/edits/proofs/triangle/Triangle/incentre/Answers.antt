@@ -1,8 +1,8 @@
 use Rattle.std.proofs.lemmas.Option.{IfSome_then}
 use Rattle.exact.specs.Plane.{ExactPoint, IsPointRepresentable}
 use Rattle.plane.specs.Sides.{IsOnLine}
-use Rattle.edits.specs.Triangles.{IsIncentre}
-use Rattle.edits.proofs.EarPoints.{even_p, even_q, bisectors_meet, meets_in, incentre_missing, none_more}
+use Rattle.plane.specs.Triangles.{IsIncentre}
+use Rattle.edits.proofs.ears.Points.{even_p, even_q, bisectors_meet, meets_in, incentre_missing, none_more}
 use Rattle.edits.proofs.triangle.Triangle.incentre.Goals as goal
 
 pub bisector-first-requires : goal.bisector-first-requires

@@ -1,0 +1,3 @@
+-- Where a bisector may begin, and that it is an extension.
+pub mod AnyAlong
+pub mod Bisected

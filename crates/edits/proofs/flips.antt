@@ -1,0 +1,2 @@
+-- Patterns with exchanged colours.
+pub mod Flipping
