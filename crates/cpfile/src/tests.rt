@@ -1,5 +1,4 @@
 //! CP texts and what reading them answers, worked by hand.
-
 use crate::{CpBad, CpWhy, read_cp};
 use creases::Crease;
 use lattice::Lattice;
@@ -68,7 +67,7 @@ fn number(rt: &impl Abort, text: &str) -> Num {
 }
 
 #[test]
-fn a_line_of_the_bird_base(rt: HostRuntime) {
+fn a_line_of_the_bird_base_is_read(rt: HostRuntime) {
     let text = b"2 -200.0 -200.0 200.0 -34.31457505076198\n";
     let line = crease(&rt, Colour::M, "0,0", "1,-1+1r");
     assert!(rt; draws(rt.alloc(), usual(&rt), text, 1, 0));
@@ -76,14 +75,14 @@ fn a_line_of_the_bird_base(rt: HostRuntime) {
 }
 
 #[test]
-fn near_no_value(rt: HostRuntime) {
+fn a_decimal_near_no_value_is_refused(rt: HostRuntime) {
     let coarse = by_numbers(&rt, 1, 1, 1000, 1, 1);
     let text = b"2 0.123 -200 200 200";
     assert!(rt; is_refused(rt.alloc(), coarse, text, 1, CpWhy::NoNear { field: 2 }));
 }
 
 #[test]
-fn near_two_values(rt: HostRuntime) {
+fn a_decimal_near_two_values_is_refused(rt: HostRuntime) {
     let fine = by_numbers(&rt, 64, 1024, 10_000, 1, 1);
     let why = CpWhy::TwoNear {
         field: 2,
@@ -109,7 +108,7 @@ const SPLIT: &[u8] = b"1 -200.0 -200.0 -200.0 0.0
 ";
 
 #[test]
-fn waterbomb_base(rt: HostRuntime) {
+fn a_waterbomb_base_is_read(rt: HostRuntime) {
     assert!(rt; draws(rt.alloc(), usual(&rt), SPLIT, 6, 6));
     let third = crease(&rt, Colour::V, "0,1", "1/2,1/2");
     assert!(rt; has(rt.alloc(), usual(&rt), SPLIT, 2, third));
@@ -128,14 +127,14 @@ const WHOLE: &[u8] = b"1 -200.0 -200.0 -200.0 200.0
 ";
 
 #[test]
-fn waterbomb_base_in_whole_lines(rt: HostRuntime) {
+fn a_waterbomb_base_in_whole_lines_is_read(rt: HostRuntime) {
     assert!(rt; draws(rt.alloc(), usual(&rt), WHOLE, 3, 4));
     let last = crease(&rt, Colour::M, "0,1/2", "1,1/2");
     assert!(rt; has(rt.alloc(), usual(&rt), WHOLE, 2, last));
 }
 
 #[test]
-fn a_wide_sheet(rt: HostRuntime) {
+fn a_wide_sheet_has_more_values(rt: HostRuntime) {
     let text = b"2 200 -200 600 200";
     let wide = by_numbers(&rt, 64, 128, 1000, 2, 1);
     let line = crease(&rt, Colour::M, "1,0", "2,1");
@@ -144,13 +143,13 @@ fn a_wide_sheet(rt: HostRuntime) {
 }
 
 #[test]
-fn long_lines(rt: HostRuntime) {
+fn a_line_of_257_bytes_is_too_long(rt: HostRuntime) {
     assert!(rt; draws(rt.alloc(), usual(&rt), &[b' '; 256], 0, 0));
     assert!(rt; is_refused(rt.alloc(), usual(&rt), &[b' '; 257], 1, CpWhy::TooLong));
 }
 
 #[test]
-fn lines_of_no_form(rt: HostRuntime) {
+fn lines_of_no_form_are_refused(rt: HostRuntime) {
     for text in [
         "2 0 0 0",
         "2 0 0 0 0 0",
@@ -182,7 +181,7 @@ fn the_tolerance_has_its_end(rt: HostRuntime) {
 }
 
 #[test]
-fn no_direction(rt: HostRuntime) {
+fn a_line_in_no_direction_is_refused(rt: HostRuntime) {
     for text in ["2 -200 -200 200 -100", "1 -200 -200 200 -100"] {
         assert!(rt;
             is_refused(
@@ -198,7 +197,7 @@ fn no_direction(rt: HostRuntime) {
 }
 
 #[test]
-fn contours(rt: HostRuntime) {
+fn a_contour_inside_is_refused(rt: HostRuntime) {
     let text = b"1 -200 -200 200 200";
     assert!(rt; is_refused(rt.alloc(), usual(&rt), text, 1, CpWhy::InnerContour));
     assert!(rt;
@@ -213,7 +212,7 @@ fn contours(rt: HostRuntime) {
 }
 
 #[test]
-fn auxiliary_lines(rt: HostRuntime) {
+fn auxiliary_lines_are_of_two_types(rt: HostRuntime) {
     let text = b"0 -200 -200 200 200\n4 200 200 -200 -200\n";
     let line = crease(&rt, Colour::A, "0,0", "1,1");
     assert!(rt; has(rt.alloc(), usual(&rt), text, 0, line));

@@ -14,7 +14,7 @@ fn is_written(alloc: Global, pattern: &[u8], text: &[u8]) -> Result<bool, Fail> 
 
 /// The crease ends at 400·(√2 - 1) - 200, which is -34.31457505076198.. and is rounded down.
 #[test]
-fn crease_from_a_corner(rt: HostRuntime) -> Result<(), Fail> {
+fn a_crease_from_a_corner_is_written(rt: HostRuntime) -> Result<(), Fail> {
     let text = b"\
 1 -200.000000000000 -200.000000000000 -200.000000000000 200.000000000000
 1 -200.000000000000 -200.000000000000 200.000000000000 -200.000000000000
@@ -29,7 +29,7 @@ fn crease_from_a_corner(rt: HostRuntime) -> Result<(), Fail> {
 
 /// 400·399/800 - 200 is -1/2.
 #[test]
-fn between_minus_one_and_zero(rt: HostRuntime) -> Result<(), Fail> {
+fn a_place_between_minus_one_and_zero_is_written(rt: HostRuntime) -> Result<(), Fail> {
     let text = b"\
 1 -200.000000000000 -200.000000000000 -200.000000000000 200.000000000000
 1 -200.000000000000 -200.000000000000 -0.500000000000 -200.000000000000
@@ -45,7 +45,7 @@ fn between_minus_one_and_zero(rt: HostRuntime) -> Result<(), Fail> {
 
 /// 400/2 - 200 is zero, without a sign, and 400·2/3 - 200 is 66.66.., rounded down.
 #[test]
-fn zero_and_a_third(rt: HostRuntime) -> Result<(), Fail> {
+fn zero_and_a_third_are_written(rt: HostRuntime) -> Result<(), Fail> {
     let text = b"\
 1 -200.000000000000 -200.000000000000 -200.000000000000 200.000000000000
 1 -200.000000000000 -200.000000000000 200.000000000000 -200.000000000000
@@ -60,7 +60,7 @@ fn zero_and_a_third(rt: HostRuntime) -> Result<(), Fail> {
 
 /// The scale stays on a larger sheet: one of 2 by 1 goes from -200 to 600 in x.
 #[test]
-fn larger_sheet(rt: HostRuntime) -> Result<(), Fail> {
+fn a_larger_sheet_is_written(rt: HostRuntime) -> Result<(), Fail> {
     let text = b"\
 1 -200.000000000000 -200.000000000000 -200.000000000000 200.000000000000
 1 -200.000000000000 -200.000000000000 200.000000000000 -200.000000000000

@@ -1,5 +1,5 @@
 -- Cyclic lists: turning, and a crimp at the front.
-use Rattle.std.proofs.Common.{◌≡◌, ◌≢◌, ◌%◌, ℕ, arith, refl, subst, ap, sym, ◌∙◌, ◌⊎◌, inl, inr, List, [], ◌∷◌, ◌++◌}
+use Rattle.std.proofs.Common.{◌≡◌, ◌≢◌, ◌%◌, ℕ, arith, refl, subst, sym, ◌∙◌, ◌⊎◌, inl, inr, List, [], ◌∷◌, ◌++◌, append-nil}
 use Rattle.std.specs.Prelude.{ℤ}
 use Rattle.sheet.specs.declared.mark.Mark.{Mark}
 use Rattle.crimp.specs.Rules.{Rules}
@@ -39,13 +39,9 @@ pub follows_right : {A : Type 0} (u : A) (xs : List A) (v : A) (ys : List A) (z 
 follows_right u [] v ys z a b h = inr h
 follows_right u (x ∷ xs) v ys z a b h = inr (follows_right x xs v ys z a b h)
 
-pub append_none : {A : Type 0} (xs : List A) → xs ++ [] ≡ xs
-append_none [] = refl
-append_none (x ∷ xs) = ap (λ ys. x ∷ ys) (append_none xs)
-
 pub linked_turned : {A : Type 0} (xs ys : List A) (a b : A) → Linked (xs ++ ys) a b → Linked (ys ++ xs) a b
-linked_turned [] ys a b h = rw (append_none ys) h
-linked_turned (u ∷ xs) [] a b h = subst (λ ls. Linked ls a b) (append_none (u ∷ xs)) h
+linked_turned [] ys a b h = rw (append-nil ys) h
+linked_turned (u ∷ xs) [] a b h = subst (λ ls. Linked ls a b) (append-nil (u ∷ xs)) h
 linked_turned (u ∷ xs) (v ∷ ys) a b h = elim (follows_append u xs v ys u a b h) [
   | inl k ↦ follows_right v ys u xs v a b k
   | inr k ↦ follows_left v ys u xs v a b k
@@ -71,7 +67,7 @@ fewer Here Less Link Chain x mark rank f g R = record {
   nested = λ a b c d l h k m i j. R.nested a b c d (g a b l) (f a h) (f b k) (g c d m) (f c i) (f d j);
 }
 
-in_moved : (ls : List ℕ) (a b : ℕ) → a ≡ b → In ls a → In ls b
+pub in_moved : (ls : List ℕ) (a b : ℕ) → a ≡ b → In ls a → In ls b
 in_moved ls a b e h = rw e at h
 
 -- a cyclic list from the sector before the crimped one on

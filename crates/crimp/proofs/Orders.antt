@@ -1,17 +1,14 @@
 -- Where a sector stands in an order after another was put in.
 use Rattle.std.proofs.Common.{◌≡◌, ◌≢◌, ◌≤◌, ◌<◌, ◌+◌, ℕ, zero, suc, arith, refl, ap, sym, ◌∙◌, inl, inr, List, [], ◌∷◌, length, true, false, eq-eqb, eqb}
 use Rattle.std.specs.List.{insert}
-use Rattle.std.proofs.lemmas.Bool.{cases_eq, cases_Bool, eqb-true}
+use Rattle.std.proofs.lemmas.Bool.{cases_eq, ne_eqb}
 use Rattle.layers.specs.LayerOrder.{height}
 
 pub height_here : (b : ℕ) (xs : List ℕ) (a : ℕ) → b ≡ a → height (b ∷ xs) a ≡ 0
 height_here b xs a e = let t : eqb b a ≡ true = eq-eqb b a e in rw t refl
 
-not_eqb : (b a : ℕ) → b ≢ a → eqb b a ≡ false
-not_eqb b a n = elim (cases_Bool (eqb b a)) [ inl t ↦ absurd (n (eqb-true b a t)) | inr f ↦ f ]
-
 pub height_past : (b : ℕ) (xs : List ℕ) (a : ℕ) → b ≢ a → height (b ∷ xs) a ≡ 1 + height xs a
-height_past b xs a n = let t : eqb b a ≡ false = not_eqb b a n in rw t refl
+height_past b xs a n = let t : eqb b a ≡ false = ne_eqb b a n in rw t refl
 
 pub height-insert_below : (xs : List ℕ) (i y a : ℕ) → y ≢ a → i ≤ length xs → height xs a < i → height (insert xs i y) a ≡ height xs a
 height-insert_below [] zero y a n l h = absurd (omega arith)

@@ -7,7 +7,7 @@ use Rattle.sheet.specs.declared.mark.Mark.{Mark}
 use Rattle.sheet.specs.declared.mark.Mark.TheVariants as kind
 use Rattle.crimp.specs.Rules.{Between, Inside, Agrees, Rules}
 use Rattle.crimp.specs.Crimping.{Opposite}
-use Rattle.crimp.proofs.Places.{inside_moved}
+use Rattle.crimp.proofs.Places.{inside_moved, between_over}
 use Rattle.crimp.proofs.Opened.{Spans, Opening, Kind, Under, RightLow, RightHigh, LeftLow, LeftHigh, Over, int_order, opened}
 
 -- the rules with other places, marks and ranks that compare alike
@@ -37,10 +37,6 @@ agrees_other : (m : Mark) (a b n : ℕ) (rank new : ℕ → ℕ) → new a + ran
 unfolding other
 agrees_other kind.V a b n rank new e f g = (λ o. let l = g.0 o in omega arith, λ o. let l = g.1 o in omega arith)
 agrees_other kind.M a b n rank new e f g = (λ o. let l = g.0 o in omega arith, λ o. let l = g.1 o in omega arith)
-
-between_over : {n y x z y' x' z' : ℕ} → y + y' ≡ n → x + x' ≡ n → z + z' ≡ n → Between y x z → Between y' x' z'
-between_over e f g (inl h) = inr (omega arith, omega arith)
-between_over e f g (inr h) = inl (omega arith, omega arith)
 
 -- upside down
 rules_over : (Here : ℕ → Type 0) (Link : ℕ → ℕ → Type 0) (x : ℕ → ℤ) (mark : ℕ → Mark) (rank new : ℕ → ℕ) (n : ℕ) → ((a : ℕ) → Here a → new a + rank a ≡ n) → Rules Here Link x mark rank → Rules Here Link x (λ a. other (mark a)) new

@@ -1,5 +1,5 @@
 -- The places of the four creases round a crimp: p, r, q, t in this order, upwards or downwards.
-use Rattle.std.proofs.Common.{◌≡◌, ℕ, arith, ◌⊎◌, inl, inr}
+use Rattle.std.proofs.Common.{◌≡◌, ℕ, ◌+◌, arith, ◌⊎◌, inl, inr}
 use Rattle.std.specs.Prelude.{ℤ, ◌≤ℤ◌}
 use Rattle.std.proofs.lemmas.Int.{ints}
 use Rattle.crimp.specs.Rules.{Between, Inside}
@@ -12,6 +12,11 @@ inside_moved e f g h = rw (e, f, g) at h
 
 pub between_moved : {y x z y' x' z' : ℕ} → y ≡ y' → x ≡ x' → z ≡ z' → Between y x z → Between y' x' z'
 between_moved e f g h = rw (e, f, g) at h
+
+-- upside down
+pub between_over : {n y x z y' x' z' : ℕ} → y + y' ≡ n → x + x' ≡ n → z + z' ≡ n → Between y x z → Between y' x' z'
+between_over e f g (inl h) = inr (omega arith, omega arith)
+between_over e f g (inr h) = inl (omega arith, omega arith)
 
 -- a span of one of the three lies in the whole span
 pub whole_first : {p q r t y : ℤ} → Folded p q r t → Inside y p q → Inside y p t

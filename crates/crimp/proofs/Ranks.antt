@@ -1,7 +1,7 @@
 -- A crimp undone in ranks.
 use Rattle.std.proofs.Common.{◌≡◌, ◌≢◌, ◌≤◌, ◌<◌, ◌+◌, ◌%◌, ℕ, arith, refl, subst, ap, sym, ◌∙◌, ◌⊎◌, inl, inr, List, ◌∷◌, cond, eqb, eq-eqb, ltb, true, false}
 use Rattle.std.specs.Prelude.{ℤ}
-use Rattle.std.proofs.lemmas.Bool.{cases_eq, cases_lt, cases_Bool, eqb-true, ltb-true, lt-ltb}
+use Rattle.std.proofs.lemmas.Bool.{cases_eq, cases_lt, cases_Bool, ltb-true, lt-ltb, ne_eqb}
 use Rattle.sheet.specs.declared.mark.Mark.{Mark}
 use Rattle.sheet.specs.declared.mark.Mark.TheVariants as kind
 use Rattle.crimp.specs.declared.entries.Entry.{Entry}
@@ -18,9 +18,6 @@ use Rattle.crimp.proofs.Cycle.{in_turn, linked_turn, turn_back, map_turn, crimp,
 spread : (ℕ → ℕ) → ℕ → ℕ → ℕ → ℕ → ℕ → ℕ → ℕ → ℕ
 spread rank p q r hp hq hr a = cond (eqb a q) hq (cond (eqb a r) hr (cond (eqb a p) hp (cond (ltb (rank a) (rank p)) (rank a) (rank a + 2))))
 
-no_eqb : (a b : ℕ) → a ≢ b → eqb a b ≡ false
-no_eqb a b n = elim (cases_Bool (eqb a b)) [ inl t ↦ absurd (n (eqb-true a b t)) | inr f ↦ f ]
-
 module _ (rank : ℕ → ℕ) (p q r hp hq hr : ℕ) (pq : p ≢ q) (pr : p ≢ r) (qr : q ≢ r) where
   spread_q : spread rank p q r hp hq hr q ≡ hq
   unfolding spread
@@ -28,20 +25,20 @@ module _ (rank : ℕ → ℕ) (p q r hp hq hr : ℕ) (pq : p ≢ q) (pr : p ≢ 
 
   spread_r : spread rank p q r hp hq hr r ≡ hr
   unfolding spread
-  spread_r = let t : eqb r q ≡ false = no_eqb r q (λ e. qr (sym e)) in let u : eqb r r ≡ true = eq-eqb r r refl in rw (t, u) refl
+  spread_r = let t : eqb r q ≡ false = ne_eqb r q (λ e. qr (sym e)) in let u : eqb r r ≡ true = eq-eqb r r refl in rw (t, u) refl
 
   spread_p : spread rank p q r hp hq hr p ≡ hp
   unfolding spread
-  spread_p = let t : eqb p q ≡ false = no_eqb p q pq in let u : eqb p r ≡ false = no_eqb p r pr in let v : eqb p p ≡ true = eq-eqb p p refl in rw (t, u, v) refl
+  spread_p = let t : eqb p q ≡ false = ne_eqb p q pq in let u : eqb p r ≡ false = ne_eqb p r pr in let v : eqb p p ≡ true = eq-eqb p p refl in rw (t, u, v) refl
 
   spread_low : (a : ℕ) → a ≢ p → a ≢ q → a ≢ r → rank a < rank p → spread rank p q r hp hq hr a ≡ rank a
   unfolding spread
-  spread_low a np nq nr l = let t : eqb a q ≡ false = no_eqb a q nq in let u : eqb a r ≡ false = no_eqb a r nr in let v : eqb a p ≡ false = no_eqb a p np in
+  spread_low a np nq nr l = let t : eqb a q ≡ false = ne_eqb a q nq in let u : eqb a r ≡ false = ne_eqb a r nr in let v : eqb a p ≡ false = ne_eqb a p np in
       let w : ltb (rank a) (rank p) ≡ true = lt-ltb (rank a) (rank p) l in rw (t, u, v, w) refl
 
   spread_high : (a : ℕ) → a ≢ p → a ≢ q → a ≢ r → rank p ≤ rank a → spread rank p q r hp hq hr a ≡ rank a + 2
   unfolding spread
-  spread_high a np nq nr l = let t : eqb a q ≡ false = no_eqb a q nq in let u : eqb a r ≡ false = no_eqb a r nr in let v : eqb a p ≡ false = no_eqb a p np in
+  spread_high a np nq nr l = let t : eqb a q ≡ false = ne_eqb a q nq in let u : eqb a r ≡ false = ne_eqb a r nr in let v : eqb a p ≡ false = ne_eqb a p np in
       elim (cases_Bool (ltb (rank a) (rank p))) [ inl w ↦ let m : rank a < rank p = ltb-true (rank a) (rank p) w in absurd (omega arith) | inr w ↦ rw (t, u, v, w) refl ]
 
 module _ (Here : ℕ → Type 0) (Small : ℕ → ℕ → Type 0) (Old : ℕ → Type 0) (Large : ℕ → ℕ → Type 0) (x : ℕ → ℤ) (mark : ℕ → Mark) (rank : ℕ → ℕ) (p q r t : ℕ)

@@ -4,8 +4,8 @@ use Rattle.std.specs.Prelude.{ℤ, ◌+ℤ◌, ◌-ℤ◌}
 use Rattle.std.proofs.lemmas.Int.{ints}
 use Rattle.sheet.specs.declared.mark.Mark.{Mark}
 use Rattle.sheet.specs.declared.mark.Mark.TheVariants as kind
-use Rattle.crimp.specs.Rules.{Between, Inside, Agrees, Rules}
-use Rattle.crimp.proofs.Places.{between_moved}
+use Rattle.crimp.specs.Rules.{Inside, Agrees, Rules}
+use Rattle.crimp.proofs.Places.{between_moved, between_over}
 
 inside_shifted : (c : ℤ) {y x z y' x' z' : ℤ} → y ≡ c +ℤ y' → x ≡ c +ℤ x' → z ≡ c +ℤ z' → Inside y x z → Inside y' x' z'
 inside_shifted c e f g (inl h) = inl (omega (arith, ints), omega (arith, ints))
@@ -20,10 +20,6 @@ same_shifted c e f h = omega (arith, ints)
 
 same_turned : (c : ℤ) {y x y' x' : ℤ} → y ≡ c -ℤ y' → x ≡ c -ℤ x' → y ≡ x → y' ≡ x'
 same_turned c e f h = omega (arith, ints)
-
-between_turned : {n y x z y' x' z' : ℕ} → y + y' ≡ n → x + x' ≡ n → z + z' ≡ n → Between y x z → Between y' x' z'
-between_turned e f g (inl h) = inr (omega arith, omega arith)
-between_turned e f g (inr h) = inl (omega arith, omega arith)
 
 -- Under the first numbers the rules are to be shown; φ gives the second numbers, under which they hold.
 pub record Relabelled (Here New : ℕ → Type 0) (Link Chain : ℕ → ℕ → Type 0) (mark tag : ℕ → Mark) (φ : ℕ → ℕ) : Type 0 where
@@ -73,11 +69,11 @@ module _ (Here New : ℕ → Type 0) (Link Chain : ℕ → ℕ → Type 0) (x y 
       apart = λ a b h k e. M.one a b h k (R.apart (φ a) (φ b) (M.here a h) (M.here b k) (same_old a b h k e));
       agrees = λ a b l h k. flipped_agrees (mark b) a b h k (subst (λ m. Agrees m (φ a) (φ b) old) (sym (M.marks b k)) (R.agrees (φ a) (φ b) (M.link a b l) (M.here a h) (M.here b k)));
       clear = λ a b e f l h k m j i g. R.clear (φ a) (φ b) (φ e) (φ f) (M.link a b l) (M.here a h) (M.here b k) (M.link e f m) (M.here e j)
-          (inside_turned c (places b k) (places e j) (places f (M.ends e f m)) i) (between_turned (ranks e j) (ranks a h) (ranks b k) g);
+          (inside_turned c (places b k) (places e j) (places f (M.ends e f m)) i) (between_over (ranks e j) (ranks a h) (ranks b k) g);
       nested = λ a b e f l h k m i j d s o.
           let q = R.nested (φ a) (φ b) (φ e) (φ f) (M.link a b l) (M.here a h) (M.here b k) (M.link e f m) (M.here e i) (M.here f j) (λ t. d (M.one b f k j t)) (same_turned c (places b k) (places f j) s)
           (same_parity b f k j o) in (
-            λ g. between_turned (turned f j) (turned a h) (turned b k) (q.0 (between_turned (ranks e i) (ranks a h) (ranks b k) g)),
-            λ g. between_turned (turned e i) (turned a h) (turned b k) (q.1 (between_turned (ranks f j) (ranks a h) (ranks b k) g)),
+            λ g. between_over (turned f j) (turned a h) (turned b k) (q.0 (between_over (ranks e i) (ranks a h) (ranks b k) g)),
+            λ g. between_over (turned e i) (turned a h) (turned b k) (q.1 (between_over (ranks f j) (ranks a h) (ranks b k) g)),
           );
     }

@@ -1,20 +1,17 @@
 -- A layer order of a cyclic list outlives a crimp.
-use Rattle.std.proofs.Common.{◌≡◌, ◌≢◌, ◌≤◌, ◌<◌, ◌%◌, ℕ, arith, refl, ap, subst, sym, ◌∙◌, ◌⊎◌, inl, inr, cond, eqb, eq-eqb, true, false, List, [], ◌∷◌}
+use Rattle.std.proofs.Common.{◌≡◌, ◌≢◌, ◌≤◌, ◌<◌, ◌%◌, ℕ, arith, refl, ap, sym, ◌∙◌, ◌⊎◌, inl, inr, cond, eqb, eq-eqb, true, false, List, [], ◌∷◌}
 use Rattle.std.specs.Prelude.{ℤ, pos, ◌+ℤ◌, ◌-ℤ◌}
 use Rattle.std.proofs.lemmas.Int.{ints}
-use Rattle.std.proofs.lemmas.Bool.{cases_eq, cases_Bool, eqb-true}
+use Rattle.std.proofs.lemmas.Bool.{cases_eq, ne_eqb}
 use Rattle.sheet.specs.declared.mark.Mark.{Mark}
 use Rattle.crimp.specs.declared.entries.Entry.{Entry}
 use Rattle.crimp.specs.Rules.{Inside, Rules}
 use Rattle.crimp.specs.Cyclic.{In, Follows, Linked, Distinct}
 use Rattle.crimp.specs.Cycle.{merged, numbers_of, crimped_at, IsCycle, Crimpable}
-use Rattle.crimp.proofs.Cyclic.{fewer, follows_from, follows_to}
+use Rattle.crimp.proofs.Cyclic.{fewer, in_moved, follows_from, follows_to}
 use Rattle.crimp.proofs.Cycle.{in_turn, linked_turn, turn_back, map_turn, opposite, shown, Front}
 use Rattle.crimp.proofs.Opened.{Spans, Opening, Stays}
 use Rattle.crimp.proofs.Outlives.{rules_moved, outlives}
-
-no_eqb : (a b : ℕ) → a ≢ b → eqb a b ≡ false
-no_eqb a b n = elim (cases_Bool (eqb a b)) [ inl e ↦ absurd (n (eqb-true a b e)) | inr e ↦ e ]
 
 pub low : (ℕ → ℤ) → (ℕ → ℕ) → ℕ → ℕ → ℤ
 low x arc s a = cond (eqb (a % 2) s) (x a) (x a -ℤ pos (arc a))
@@ -29,7 +26,7 @@ module _ (x : ℕ → ℤ) (arc : ℕ → ℕ) (s a : ℕ) where
 
   pub low_other : a % 2 ≢ s → low x arc s a ≡ x a -ℤ pos (arc a)
   unfolding low
-  low_other o = let e = no_eqb (a % 2) s o in rw e refl
+  low_other o = let e = ne_eqb (a % 2) s o in rw e refl
 
   pub high_same : a % 2 ≡ s → high x arc s a ≡ x a +ℤ pos (arc a)
   unfolding high
@@ -37,7 +34,7 @@ module _ (x : ℕ → ℤ) (arc : ℕ → ℕ) (s a : ℕ) where
 
   pub high_other : a % 2 ≢ s → high x arc s a ≡ x a
   unfolding high
-  high_other o = let e = no_eqb (a % 2) s o in rw e refl
+  high_other o = let e = ne_eqb (a % 2) s o in rw e refl
 
 -- numbers_of of parity s go up, the others down
 pub record Walk (Here : ℕ → Type 0) (Link : ℕ → ℕ → Type 0) (x : ℕ → ℤ) (arc : ℕ → ℕ) (s : ℕ) : Type 0 where
@@ -69,9 +66,6 @@ spans Here Link x arc s W = record {
     | inr o ↦ let e = low_other x arc s a o in let f = high_other x arc s a o in let g = W.down a b.0 b.1 o in (b.0, (b.1, inr (omega (arith, ints), omega (arith, ints))))
   ];
 }
-
-moved_in : (ls : List ℕ) (a b : ℕ) → a ≡ b → In ls a → In ls b
-moved_in ls a b e h = subst (In ls) e h
 
 -- the crimp at the front of a list
 opening : (x : ℕ → ℤ) (arc : ℕ → ℕ) (s p q r t : ℕ) (zs : List ℕ) → Distinct (p ∷ q ∷ r ∷ t ∷ zs) → Walk (In (p ∷ q ∷ r ∷ t ∷ zs)) (Linked (p ∷ q ∷ r ∷ t ∷ zs)) x arc s → p % 2 ≡ s → arc q ≤ arc p → arc q ≤ arc r
@@ -114,15 +108,15 @@ opening x arc s p q r t zs D W o lp lr = record {
 
     less : (a : ℕ) → In (p ∷ t ∷ zs) a → In (p ∷ q ∷ r ∷ t ∷ zs) a × ((a ≢ q) × (a ≢ r))
     less a (inl e) = (inl e, ((λ f. D.0 (inl (sym e ∙ f))), (λ f. D.0 (inr (inl (sym e ∙ f))))))
-    less a (inr h) = (inr (inr (inr h)), ((λ f. D.1.0 (inr (moved_in (t ∷ zs) a q f h))), (λ f. D.1.1.0 (moved_in (t ∷ zs) a r f h))))
+    less a (inr h) = (inr (inr (inr h)), ((λ f. D.1.0 (inr (in_moved (t ∷ zs) a q f h))), (λ f. D.1.1.0 (in_moved (t ∷ zs) a r f h))))
 
     last : (a b : ℕ) → Follows t zs p a b → Stays (In (p ∷ q ∷ r ∷ t ∷ zs)) (Linked (p ∷ q ∷ r ∷ t ∷ zs)) p q r t a b
     last a b l = record {
       link = inr (inr (inr l));
-      not_p = λ e. D.0 (inr (inr (moved_in (t ∷ zs) a p e (follows_from t zs p a b l))));
-      not_q = λ e. elim (follows_to t zs p a b l) [ inl f ↦ D.0 (inl (sym f ∙ e)) | inr k ↦ D.1.0 (inr (inr (moved_in zs b q e k))) ];
-      not_r = λ e. elim (follows_to t zs p a b l) [ inl f ↦ D.0 (inr (inl (sym f ∙ e))) | inr k ↦ D.1.1.0 (inr (moved_in zs b r e k)) ];
-      not_t = λ e. elim (follows_to t zs p a b l) [ inl f ↦ D.0 (inr (inr (inl (sym f ∙ e)))) | inr k ↦ D.1.1.1.0 (moved_in zs b t e k) ];
+      not_p = λ e. D.0 (inr (inr (in_moved (t ∷ zs) a p e (follows_from t zs p a b l))));
+      not_q = λ e. elim (follows_to t zs p a b l) [ inl f ↦ D.0 (inl (sym f ∙ e)) | inr k ↦ D.1.0 (inr (inr (in_moved zs b q e k))) ];
+      not_r = λ e. elim (follows_to t zs p a b l) [ inl f ↦ D.0 (inr (inl (sym f ∙ e))) | inr k ↦ D.1.1.0 (inr (in_moved zs b r e k)) ];
+      not_t = λ e. elim (follows_to t zs p a b l) [ inl f ↦ D.0 (inr (inr (inl (sym f ∙ e)))) | inr k ↦ D.1.1.1.0 (in_moved zs b t e k) ];
     }
 
     small : (a b : ℕ) → Linked (p ∷ t ∷ zs) a b → ((a ≡ p) × (b ≡ t)) ⊎ Stays (In (p ∷ q ∷ r ∷ t ∷ zs)) (Linked (p ∷ q ∷ r ∷ t ∷ zs)) p q r t a b
@@ -143,7 +137,7 @@ arc_of : (es : List Entry) (e : Entry) → Distinct (numbers_of es) → In es e 
 unfolding arc
 arc_of [] e D h = absurd h
 arc_of (f ∷ es) e D (inl h) = let k : eqb e.number f.number ≡ true = eq-eqb e.number f.number (ap (λ e. e.number) h) in rw k (sym (ap (λ e. e.angle) h))
-arc_of (f ∷ es) e D (inr h) = let k : eqb e.number f.number ≡ false = no_eqb e.number f.number (λ g. D.0 (moved_in (numbers_of es) e.number f.number g (in_number es e h))) in rw k (arc_of es e D.1 h)
+arc_of (f ∷ es) e D (inr h) = let k : eqb e.number f.number ≡ false = ne_eqb e.number f.number (λ g. D.0 (in_moved (numbers_of es) e.number f.number g (in_number es e h))) in rw k (arc_of es e D.1 h)
 
 in_entry : (es : List Entry) (a : ℕ) → In (numbers_of es) a → (e : Entry) × ((a ≡ e.number) × In es e)
 in_entry [] a h = absurd h

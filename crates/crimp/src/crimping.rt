@@ -1,5 +1,4 @@
 //! Crimping a list of sectors, and the order that comes back.
-
 ghost use Rattle.std.specs.Prelude.{◌≡◌, ◌+◌, ◌<◌, ◌≤◌, ◌↔◌, ℕ, ℤ, [], ◌∷◌, length, IsTrue, IsSome, IfSome};
 ghost use Rattle.std.specs.Prelude.{IfNone, true, false, cond, ◌==◌, ◌-◌};
 ghost use Rattle.sheet.specs.declared.mark.Mark.{Mark as AnyMark};

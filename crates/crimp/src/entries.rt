@@ -1,5 +1,4 @@
 //! The sectors as a list that is being crimped.
-
 ghost use Rattle.std.specs.Prelude.{◌≡◌, ◌<◌, ◌≤◌, length};
 ghost use Rattle.layers.specs.Sectors.{sector_at};
 ghost use Rattle.crimp.specs.Cycle.{entry_for, numbered as numbered_from};

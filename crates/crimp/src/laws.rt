@@ -2,7 +2,6 @@
 //! of sectors, numbered from their first entry; with the entry of least first direction first,
 //! these are the lists that `reduce` crimps. After Hull, Origametry, and Demaine and O'Rourke,
 //! Geometric Folding Algorithms, chapter 12, on crimping a single vertex.
-
 ghost use Rattle.std.specs.Prelude.{◌≡◌, ◌+◌, ◌≤◌, ◌↔◌, ◌⊎◌, List, ℕ, length};
 ghost use Rattle.layers.specs.declared.sector_list.Sector.{Sector as AnySector};
 ghost use Rattle.layers.specs.Star.{mountains, valleys};

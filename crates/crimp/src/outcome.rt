@@ -1,5 +1,4 @@
 //! Whether the creases of a vertex fold flat.
-
 ghost use Rattle.std.specs.Prelude.{◌≤◌, ◌↔◌, ℕ, ℤ, IsSome, IfSome};
 ghost use Rattle.sheet.specs.declared.mark.Mark.{Mark as AnyMark};
 ghost use Rattle.layers.specs.LayerOrder.{ClosesUp, IsLayerOrder};

@@ -1,5 +1,4 @@
 //! The named run of a list that can't be crimped.
-
 ghost use Rattle.std.specs.Prelude.{◌≡◌, ◌+◌, ◌<◌, ◌≤◌, ◌%◌, ◌↔◌, ◌⊎◌, ℕ, length, map, IsTrue};
 ghost use Rattle.layers.specs.Sectors.{AreSectors, sector_at};
 ghost use Rattle.crimp.specs.Cycle.{entry_at};

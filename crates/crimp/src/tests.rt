@@ -1,5 +1,4 @@
 //! Stars that fold flat and stars that do not, worked by hand.
-
 use crate::{Outcome, reduce};
 use arrayvec::ArrayVec;
 use layers::Mark::{M, V};
@@ -51,7 +50,7 @@ fn sticks(rt: &impl Abort, rays: &[(u8, Mark)], expected: [u8; 4]) -> bool {
 }
 
 #[test]
-fn folded(rt: HostRuntime) {
+fn these_stars_fold_flat(rt: HostRuntime) {
     // The four half diagonals of a sheet, one of them a valley: there is one order.
     assert!(rt; folds(&rt, &[(2, M), (6, M), (10, M), (14, V)], &[1, 2, 3, 0]));
     // A rabbit ear.
@@ -64,7 +63,7 @@ fn folded(rt: HostRuntime) {
 }
 
 #[test]
-fn stuck(rt: HostRuntime) {
+fn these_stars_are_stuck_in_a_run(rt: HostRuntime) {
     // The rabbit ear with two marks exchanged: mountains and valleys differ by two, and the least
     // sector has equal marks.
     assert!(rt; sticks(&rt, &[(5, V), (10, M), (12, M), (15, M)], [10, 12, 2, 1]));
@@ -77,7 +76,7 @@ fn stuck(rt: HostRuntime) {
 
 // Sixteen rays with all angles one unit.
 #[test]
-fn sixteen(rt: HostRuntime) {
+fn sixteen_least_sectors_fold_or_are_stuck(rt: HostRuntime) {
     let marks = [M, V, M, V, M, V, M, V, M, V, M, V, M, M, V, M];
     let mut rays = [(0, M); 16];
     for (i, mark) in marks.iter().enumerate() {

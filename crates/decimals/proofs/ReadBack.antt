@@ -10,16 +10,13 @@ use Rattle.qroot2.proofs.callers.Numerals.{value_push, digits_push, value_numera
 use Rattle.decimals.specs.Decimal.{IsDecimal, IsSign, Spells, Decimal, signed, scaled, units_of}
 use Rattle.decimals.specs.DecimalText.{last_digits, size_text, decimal_text}
 use Rattle.decimals.proofs.Digits.{length_last}
+use Rattle.decimals.proofs.Scaling.{value_append}
 
 last_digits_all : (k n : ℕ) → AllDigits (last_digits k n)
 unfolding last_digits
 last_digits_all zero n = tt
 last_digits_all (suc k) n =
     digits_push (last_digits k (n / 10)) (48 + n % 10) (last_digits_all k (n / 10)) (omega arith) (omega arith)
-
-value_append : (v : ℕ) (xs ys : List ℕ) → value_on v (xs ++ ys) ≡ value_on (value_on v xs) ys
-value_append v [] ys = refl
-value_append v (x ∷ xs) ys = value_append (10 * v + (x - 48)) xs ys
 
 last_value : (k q v r : ℕ) → q ≡ 10 ^ k → r < q → value_on v (last_digits k r) ≡ v * q + r
 unfolding last_digits

@@ -2,7 +2,7 @@
 use crate::read_decimal;
 
 #[test]
-fn decimals(rt: HostRuntime) {
+fn decimals_are_read_in_units(rt: HostRuntime) {
     for (text, want) in [
         ("0", Some(0)),
         ("-0.0", Some(0)),
@@ -24,7 +24,7 @@ fn decimals(rt: HostRuntime) {
 }
 
 #[test]
-fn no_decimals(rt: HostRuntime) {
+fn other_words_are_no_decimals(rt: HostRuntime) {
     for text in [
         "", "+", ".", "-.", "e5", ".e5", "1e", "1e+", "1e1000", "1e0001", "1.2.3", "--1", "1-",
         " 1", "0x1", "1e5.", "1,5",

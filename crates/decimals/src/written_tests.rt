@@ -2,7 +2,7 @@
 use crate::put_decimal;
 
 #[test]
-fn written_decimals(rt: HostRuntime) {
+fn decimals_are_written_with_twelve_digits(rt: HostRuntime) {
     for (units, text) in [
         (0, "0.000000000000"),
         (1, "0.000000000001"),

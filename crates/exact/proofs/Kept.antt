@@ -4,7 +4,7 @@ use Rattle.std.specs.Prelude.{ℤ, pos, ◌+ℤ◌, ◌-ℤ◌, ◌*ℤ◌}
 use Rattle.exact.specs.Number.{ExactNumber, den, Less, Positive, add, mul}
 use Rattle.exact.proofs.Ring.{is_add, is_sub, is_lit, is_atom, is_mul, is_eq}
 use Rattle.exact.proofs.Positive.{scaled}
-use Rattle.exact.proofs.Products.{positive_product, whole_part, root_part}
+use Rattle.exact.proofs.Products.{moved, positive_product, whole_part, root_part}
 
 -- a product of denominators is a denominator
 pub tall : (m n : ℕ) → 0 < m → 0 < n → max 1 (m * n) ≡ m * n
@@ -24,9 +24,6 @@ added x y z d e f =
     let X = is_atom x in let Y = is_atom y in let Z = is_atom z in let D = is_lit d in let E = is_lit e in let F = is_lit f in
     is_eq (is_sub (is_mul (is_add (is_mul Y F) (is_mul Z E)) (is_lit (d * f))) (is_mul (is_add (is_mul X F) (is_mul Z D)) (is_lit (e * f))))
     (is_mul (is_sub (is_mul Y D) (is_mul X E)) (is_lit (f * f))) (omega arith)
-
-moved : (a a' b b' : ℤ) → a ≡ a' → b ≡ b' → Positive a' b' → Positive a b
-moved a a' b b' e f v = rw (e, f) v
 
 square_above : (n : ℕ) → 0 < n → 0 < n * n
 square_above zero h = absurd (omega arith)

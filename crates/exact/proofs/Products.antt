@@ -7,7 +7,7 @@ use Rattle.exact.proofs.Ring.{is_add, is_neg, is_lit, is_atom, is_mul, is_eq}
 use Rattle.exact.proofs.Root.{side}
 use Rattle.exact.proofs.Positive.{positive_sum, scaled, exclusive, zero_not, from_high, from_low}
 
-moved : (a a' b b' : ℤ) → a ≡ a' → b ≡ b' → Positive a' b' → Positive a b
+pub moved : (a a' b b' : ℤ) → a ≡ a' → b ≡ b' → Positive a' b' → Positive a b
 moved a a' b b' e f v = rw (e, f) v
 
 -- √2 times a number above zero

@@ -41,7 +41,11 @@ abbrev pub neg : ExactNumber → ExactNumber
 neg x = record { a = neg_ℤ x.a; b = neg_ℤ x.b; d = x.d }
 
 abbrev pub add : ExactNumber → ExactNumber → ExactNumber
-add x y = record { a = x.a *ℤ pos (den y) +ℤ y.a *ℤ pos (den x); b = x.b *ℤ pos (den y) +ℤ y.b *ℤ pos (den x); d = den x * den y }
+add x y = record {
+  a = x.a *ℤ pos (den y) +ℤ y.a *ℤ pos (den x);
+  b = x.b *ℤ pos (den y) +ℤ y.b *ℤ pos (den x);
+  d = den x * den y;
+}
 
 abbrev pub sub : ExactNumber → ExactNumber → ExactNumber
 sub x y = add x (neg y)

@@ -20,7 +20,7 @@ fn is_written(alloc: Global, pattern: &[u8], graph: &[u8], exact: &[u8]) -> Resu
 }
 
 #[test]
-fn blank_sheet(rt: HostRuntime) -> Result<(), Fail> {
+fn a_blank_sheet_is_written(rt: HostRuntime) -> Result<(), Fail> {
     let graph = b"\"vertices_coords\":[[0.000000000000,0.000000000000],\
         [0.000000000000,1.000000000000],[1.000000000000,0.000000000000],\
         [1.000000000000,1.000000000000]],\"edges_vertices\":[[0,1],[0,2],[1,3],[2,3]],";
@@ -32,7 +32,7 @@ fn blank_sheet(rt: HostRuntime) -> Result<(), Fail> {
 
 /// The crease ends at √2 - 1, which is 0.41421356237309.. and is rounded down.
 #[test]
-fn crease_from_a_corner(rt: HostRuntime) -> Result<(), Fail> {
+fn a_crease_from_a_corner_is_written(rt: HostRuntime) -> Result<(), Fail> {
     let graph = b"\"vertices_coords\":[[0.000000000000,0.000000000000],\
         [0.000000000000,1.000000000000],[1.000000000000,0.000000000000],\
         [1.000000000000,0.414213562373],[1.000000000000,1.000000000000]],\
@@ -45,7 +45,7 @@ fn crease_from_a_corner(rt: HostRuntime) -> Result<(), Fail> {
 
 /// An auxiliary crease at 2/3, which is rounded down, and a valley on a sheet of 2 by 1.
 #[test]
-fn larger_sheet(rt: HostRuntime) -> Result<(), Fail> {
+fn a_larger_sheet_is_written(rt: HostRuntime) -> Result<(), Fail> {
     let pattern = b"q2 2 2 1\nA 2/3,0 2/3,1\nV 3/2,0 3/2,1\n";
     let graph = b"\"vertices_coords\":[[0.000000000000,0.000000000000],\
         [0.000000000000,1.000000000000],[0.666666666666,0.000000000000],\

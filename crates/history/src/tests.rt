@@ -1,5 +1,4 @@
 //! Undoing and redoing, worked by hand. The deltas are told apart by how many creases they add.
-
 use crate::History;
 use pattern::{Colour, Crease, Delta};
 use plane::{Seg, read_point};
@@ -32,7 +31,7 @@ fn count(delta: Option<&Delta>) -> Option<usize> {
 }
 
 #[test]
-fn undone_and_redone(rt: HostRuntime) -> Result<(), Fail> {
+fn deltas_are_undone_and_redone(rt: HostRuntime) -> Result<(), Fail> {
     let mut history = History::new(rt.alloc());
     assert!(rt; !history.can_undo() && !history.can_redo());
     assert!(rt; count(history.last()) == None && count(history.next()) == None);
@@ -60,7 +59,7 @@ fn undone_and_redone(rt: HostRuntime) -> Result<(), Fail> {
 }
 
 #[test]
-fn last_thousand(rt: HostRuntime) -> Result<(), Fail> {
+fn the_last_thousand_deltas_are_kept(rt: HostRuntime) -> Result<(), Fail> {
     let mut history = History::new(rt.alloc());
     // The first three are given up.
     for n in [1, 2, 3, 4] {

@@ -1,5 +1,4 @@
 //! Sums of angles and numbers of marks, at most sixteen of each.
-
 ghost use Rattle.std.specs.Prelude.{◌≡◌, ◌<◌, ◌≤◌, ℕ, length};
 ghost use Rattle.layers.specs.Star.{mountains as mountains_of, valleys as valleys_of};
 ghost use Rattle.layers.specs.Sectors.{sector_at};

@@ -1,6 +1,5 @@
 //! The patterns of examples/: each vertex inside the sheet from which a mountain or a valley goes out folds
 //! flat, and the others are plain. How many there are of each was counted on the patterns.
-
 use crate::{Judged, Report, Verdict};
 use pattern::read_pattern;
 use plane::Point;

@@ -1,5 +1,4 @@
 //! The vertices of a pattern that do not fold flat.
-
 ghost use Rattle.std.specs.Prelude.{◌≡◌, ◌≤◌, ◌↔◌, IfOk, IsTrue};
 ghost use Rattle.sheet.specs.Sheet.{IsInside};
 ghost use Rattle.judge.specs.Faults.{AreFaults, ReportOf, failure_of, TellsFault};

@@ -1,5 +1,4 @@
 //! A pattern that is kept cut and judged.
-
 ghost use Rattle.std.specs.Prelude.{◌≡◌, ◌≤◌, ◌<◌, IfErr, IfOk};
 ghost use Rattle.sheet.specs.Pattern.{IsPattern};
 ghost use Rattle.pattern.specs.Deltas.{Fits, Leads};

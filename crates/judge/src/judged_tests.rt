@@ -68,7 +68,7 @@ const CROSSED: &[u8] = b"q2 1\nM 0,0 1,1\nM 0,1 1,0\n";
 const CROSSED_WITH_A_VALLEY: &[u8] = b"q2 1\nM 0,0 1,1\nM 0,1 1/2,1/2\nV 1/2,1/2 1,0\n";
 
 #[test]
-fn four_mountains(rt: HostRuntime) -> Result<(), Fail> {
+fn four_mountains_are_a_fault(rt: HostRuntime) -> Result<(), Fail> {
     let judged = judged(rt.alloc(), CROSSED)?;
     let expected = [Fault {
         at: point(&rt, "1/2,1/2"),
@@ -99,7 +99,7 @@ const BLOCKED_EAR: &[u8] =
     b"q2 1\nM 0,0 2-1r/2,2-1r/2\nV 0,1 2-1r/2,2-1r/2\nM 2-1r/2,0 2-1r/2,2-1r/2\nM 2-1r/2,2-1r/2 1,0\n";
 
 #[test]
-fn a_rabbit_ear_and_one_that_is_blocked(rt: HostRuntime) -> Result<(), Fail> {
+fn a_rabbit_ear_folds_and_one_is_blocked(rt: HostRuntime) -> Result<(), Fail> {
     let ear = judged(rt.alloc(), EAR)?;
     let rays = [(5, Mark::M), (10, Mark::M), (12, Mark::V), (15, Mark::M)];
     assert!(rt; passes(&rt, &ear, "2-1r/2,2-1r/2", &rays, &[3, 2, 1, 0]));
@@ -119,7 +119,7 @@ fn a_rabbit_ear_and_one_that_is_blocked(rt: HostRuntime) -> Result<(), Fail> {
 }
 
 #[test]
-fn a_crease_that_ends_inside(rt: HostRuntime) -> Result<(), Fail> {
+fn a_crease_that_ends_inside_is_a_fault(rt: HostRuntime) -> Result<(), Fail> {
     let ending = judged(rt.alloc(), b"q2 1\nM 0,1/2 1/2,1/2\n")?;
     let expected = [Fault {
         at: point(&rt, "1/2,1/2"),
@@ -139,7 +139,7 @@ fn a_crease_that_ends_inside(rt: HostRuntime) -> Result<(), Fail> {
 }
 
 #[test]
-fn on_the_border_inside_and_nowhere(rt: HostRuntime) -> Result<(), Fail> {
+fn points_are_on_the_border_inside_or_nowhere(rt: HostRuntime) -> Result<(), Fail> {
     let judged = judged(rt.alloc(), b"q2 1\nA 0,1/2 1/2,1/2\n")?;
     assert!(rt; matches!(judged.report(&point(&rt, "0,0")), Some(Report::Border)));
     assert!(rt; judged.report(&point(&rt, "1/3,1/3")).is_none());

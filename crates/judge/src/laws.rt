@@ -1,5 +1,4 @@
 //! Laws of the verdict, as the contracts of functions that do nothing.
-
 ghost use Rattle.std.specs.Prelude.{◌↔◌, List};
 ghost use Rattle.layers.specs.declared.star.Ray.{Ray as AnyRay};
 ghost use Rattle.layers.specs.Star.{IsStar};

@@ -1,5 +1,4 @@
 //! What is said of a vertex of a pattern.
-
 use crate::Verdict;
 use layers::Star;
 

@@ -48,7 +48,7 @@ fn why(rt: &impl Abort, rays: &[Ray]) -> Option<Why> {
 }
 
 #[test]
-fn passed(rt: HostRuntime) {
+fn these_stars_pass(rt: HostRuntime) {
     // The four half diagonals of a sheet, one of them a valley.
     let diagonals = [
         ray(&rt, 2, M),
@@ -70,7 +70,7 @@ fn passed(rt: HostRuntime) {
 }
 
 #[test]
-fn wrong_angles(rt: HostRuntime) {
+fn wrong_angles_are_told(rt: HostRuntime) {
     let expected = Some(Why::Kawasaki {
         even: 16,
         odd: 0,
@@ -88,7 +88,7 @@ fn wrong_angles(rt: HostRuntime) {
 }
 
 #[test]
-fn wrong_marks(rt: HostRuntime) {
+fn wrong_marks_are_told(rt: HostRuntime) {
     let mountains = [
         ray(&rt, 2, M),
         ray(&rt, 6, M),
@@ -117,6 +117,6 @@ fn wrong_marks(rt: HostRuntime) {
 }
 
 #[test]
-fn no_rays(rt: HostRuntime) {
+fn a_star_without_rays_is_plain(rt: HostRuntime) {
     assert!(rt; matches!(verdict(&rt, &[]), Verdict::Plain));
 }

@@ -1,5 +1,4 @@
 //! What is said of a vertex.
-
 ghost use Rattle.std.specs.Prelude.{◌≡◌, ◌+◌, ◌≤◌, length};
 ghost use Rattle.judge.specs.Verdict.{VerdictOf};
 ghost use Rattle.judge.specs.Cause.{IsCauseOf};

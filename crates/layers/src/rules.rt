@@ -1,5 +1,4 @@
 //! Whether an order of the sectors is a layer order.
-
 ghost use Rattle.std.specs.Prelude.{◌<◌, ◌≤◌, ◌↔◌, ℕ, length, IsTrue};
 ghost use Rattle.layers.specs.LayerOrder.{before as before_of, height, Between, AgreesAt, ClosesUp};
 ghost use Rattle.layers.specs.LayerOrder.{HasEachOnce, AgreesWithMarks, CrossesNoCrease, NestsCreases};

@@ -1,5 +1,4 @@
 //! The sectors round a vertex.
-
 ghost use Rattle.std.specs.Prelude.{◌≡◌, ◌<◌, ◌≤◌, ◌↔◌, length, IsTrue};
 ghost use Rattle.layers.specs.Star.{IsStar};
 ghost use Rattle.layers.specs.Sectors.{IsSector, AreSectorsOf, AreSectors, behind as behind_of};

@@ -1,5 +1,4 @@
 //! The rays of a vertex.
-
 ghost use Rattle.std.specs.Prelude.{◌≡◌, ◌↔◌, ◌≤◌, length, IsSome, IfSome};
 ghost use Rattle.layers.specs.Star.{Ascends, IsStar};
 ghost use Rattle.layers.specs.Sectors.{AreSectorsOf};

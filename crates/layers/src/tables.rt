@@ -1,5 +1,4 @@
 //! The neighbours of a crease, and tables of places and heights.
-
 ghost use Rattle.std.specs.Prelude.{◌≡◌, ◌+◌, ◌<◌, ◌≤◌, pos, ◌+ℤ◌, length};
 ghost use Rattle.layers.specs.Sectors.{sector_at};
 ghost use Rattle.layers.specs.LayerOrder.{place, before as before_of, height};

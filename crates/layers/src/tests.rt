@@ -1,5 +1,4 @@
 //! Stars with known layer orders.
-
 use crate::{Mark, Order, Ray, Star, is_order, sectors};
 use arrayvec::ArrayVec;
 use qroot2::Dir;
@@ -27,7 +26,7 @@ fn order(rt: &impl Abort, numbers: &[u8]) -> Order {
 // Four creases in the diagonals of the sheet, one a valley: of all lists of four numbers below
 // four, one is a layer order.
 #[test]
-fn one_order(rt: HostRuntime) {
+fn four_half_diagonals_have_one_order(rt: HostRuntime) {
     let star = star(
         &rt,
         &[(2, Mark::M), (6, Mark::M), (10, Mark::M), (14, Mark::V)],
@@ -47,7 +46,7 @@ fn one_order(rt: HostRuntime) {
 
 // The four creases at the incentre of a right isosceles triangle.
 #[test]
-fn rabbit_ear(rt: HostRuntime) {
+fn a_rabbit_ear_has_a_layer_order(rt: HostRuntime) {
     let star = star(
         &rt,
         &[(5, Mark::M), (10, Mark::M), (12, Mark::V), (15, Mark::M)],
@@ -66,7 +65,7 @@ fn rabbit_ear(rt: HostRuntime) {
 
 // One ray has the full turn for its sector, and no layer order. Directions that do not ascend make no star.
 #[test]
-fn few_rays(rt: HostRuntime) {
+fn one_ray_has_no_layer_order(rt: HostRuntime) {
     let one = star(&rt, &[(7, Mark::V)]);
     assert_eq!(rt; one.rays().len(), 1);
     let sectors = sectors(&one);

@@ -10,7 +10,7 @@ fn is_next(words: &mut Words, text: &[u8], column: u64) -> bool {
 }
 
 #[test]
-fn words_and_their_columns(rt: HostRuntime) {
+fn words_have_columns(rt: HostRuntime) {
     let mut words = Words::of(b"\t cp  bird ");
     assert!(rt; !words.is_empty());
     assert!(rt; is_next(&mut words, b"cp", 3));
@@ -34,7 +34,7 @@ fn begins(text: &[u8], line: &[u8], after: &[u8]) -> bool {
 }
 
 #[test]
-fn a_first_line(rt: HostRuntime) {
+fn a_first_line_loses_its_feed(rt: HostRuntime) {
     assert!(rt; begins(b"cp\r\nfold\n", b"cp", b"fold\n"));
     assert!(rt; begins(b"cp\r", b"cp", b""));
 }
@@ -47,7 +47,7 @@ fn splits(bytes: &[u8], line: &[u8], later: &[u8]) -> bool {
 }
 
 #[test]
-fn a_line_with_its_feed(rt: HostRuntime) {
+fn a_line_is_split_off_with_its_feed(rt: HostRuntime) {
     assert!(rt; splits(b"cp\r\nfold", b"cp\r\n", b"fold"));
     assert!(rt; split_line(b"fold").is_none());
 }

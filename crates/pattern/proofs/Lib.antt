@@ -8,6 +8,7 @@ pub mod NativeSteps
 pub mod Merged
 pub mod Fitting
 pub mod Pairs
+pub mod Parts
 pub mod Stepping
 pub mod Searching
 pub mod Beside

@@ -1,5 +1,4 @@
 //! Deltas between small patterns, worked by hand.
-
 use crate::{Crease, Delta, Pattern, between, pattern_bytes, read_pattern};
 use ports::Listed;
 use std::alloc::Global;
@@ -68,7 +67,7 @@ fn a_delta_leads_there_and_back(rt: HostRuntime) -> Result<(), Fail> {
 }
 
 #[test]
-fn what_does_not_fit(rt: HostRuntime) -> Result<(), Fail> {
+fn other_deltas_do_not_fit(rt: HostRuntime) -> Result<(), Fail> {
     let alloc = rt.alloc();
     let blank = b"q2 1\n";
     let old = read_pattern(alloc, b"q2 1\nM 0,1/2 1/2,1/2\n")?;

@@ -1,5 +1,4 @@
 //! Native texts and what reading them answers, worked by hand.
-
 use crate::PatternWhy::{Line, NotDirection, OnBorder, Order, Outside, Overlap, Range, TooMany};
 use crate::{Colour, Crease, PatternBad, PatternWhy, pattern_bytes, read_pattern};
 use plane::{Seg, read_point};
@@ -35,7 +34,7 @@ fn seg(rt: &impl Abort, from: &str, to: &str) -> Seg {
 }
 
 #[test]
-fn first_lines(rt: HostRuntime) {
+fn other_first_lines_are_refused(rt: HostRuntime) {
     for text in [
         "",
         "q2 1",
@@ -60,7 +59,7 @@ fn first_lines(rt: HostRuntime) {
 }
 
 #[test]
-fn forms(rt: HostRuntime) {
+fn lines_of_other_forms_are_refused(rt: HostRuntime) {
     for text in [
         "q2 1\nm 0,0 1,1\n",
         "q2 1\nB 0,0 1,1\n",
@@ -83,7 +82,7 @@ fn forms(rt: HostRuntime) {
 }
 
 #[test]
-fn single_lines(rt: HostRuntime) {
+fn a_single_line_is_refused_by_its_first_test(rt: HostRuntime) {
     for (text, why) in [
         ("q2 1\nM 0,1/1048577 1,1\n", Range),
         ("q2 1\nM 281474976710657,0 0,0\n", Range),
@@ -108,7 +107,7 @@ fn single_lines(rt: HostRuntime) {
 }
 
 #[test]
-fn second_lines(rt: HostRuntime) {
+fn a_second_line_is_refused_beside_the_first(rt: HostRuntime) {
     for (text, why) in [
         ("q2 1\nM 0,0 1,1\nM", Line),
         ("q2 1\nM 0,0 1,1\nM 0,0 1,1\n", Order),
@@ -128,7 +127,7 @@ fn second_lines(rt: HostRuntime) {
 }
 
 #[test]
-fn kept(rt: HostRuntime) {
+fn texts_of_patterns_are_kept(rt: HostRuntime) {
     for (text, count) in [
         ("q2 1\n", 0),
         // Creases of one line that touch.
@@ -150,7 +149,7 @@ fn kept(rt: HostRuntime) {
 }
 
 #[test]
-fn many_lines(rt: HostRuntime) -> Result<(), Fail> {
+fn one_line_above_the_limit_is_refused(rt: HostRuntime) -> Result<(), Fail> {
     let mut text = String::new(rt.alloc());
     write!(text, "q2 1\n")?;
     // 20011 is a prime, so that the numbers are in lowest terms.
@@ -164,7 +163,7 @@ fn many_lines(rt: HostRuntime) -> Result<(), Fail> {
 }
 
 #[test]
-fn look_ups(rt: HostRuntime) -> Result<(), Fail> {
+fn creases_are_looked_up_by_segments(rt: HostRuntime) -> Result<(), Fail> {
     let pattern = read_pattern(rt.alloc(), b"q2 1\nM 0,0 1,1\nV 0,1 1/2,1/2\n")?;
     let rising = seg(&rt, "0,0", "1,1");
     let falling = seg(&rt, "0,1", "1/2,1/2");

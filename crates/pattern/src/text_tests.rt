@@ -1,5 +1,4 @@
 //! Texts of segments, of creases and of deltas, worked by hand.
-
 use crate::{
     Colour, Pattern, delta_bytes, pattern_bytes, put_crease, put_seg, read_crease, read_delta,
     read_pattern, read_seg,
@@ -33,7 +32,7 @@ fn is_delta(alloc: Global, text: &[u8]) -> Result<bool, Fail> {
 }
 
 #[test]
-fn segments(rt: HostRuntime) {
+fn texts_of_segments_are_read(rt: HostRuntime) {
     for text in ["0,0 1,1", "0,1/2 1,1/2", "-3,0 1r/2,0", "0,0 1r/2,1r/2"] {
         assert!(rt; is_seg(text.as_bytes()), "{text}");
     }
@@ -55,7 +54,7 @@ fn segments(rt: HostRuntime) {
 }
 
 #[test]
-fn longest_segment(rt: HostRuntime) {
+fn the_longest_text_of_a_segment_is_read(rt: HostRuntime) {
     let text =
         "-281474976710656-281474976710656r/1048575,-281474976710656-281474976710656r/1048575 \
                 -281474976710655-281474976710656r/1048575,-281474976710656-281474976710656r/1048575";
@@ -63,7 +62,7 @@ fn longest_segment(rt: HostRuntime) {
 }
 
 #[test]
-fn creases(rt: HostRuntime) {
+fn texts_of_creases_are_read(rt: HostRuntime) {
     for text in ["M 0,0 1,1", "V 0,1/2 1,1/2", "A 0,0 1r/2,1r/2"] {
         assert!(rt; is_crease(text.as_bytes()), "{text}");
     }
@@ -85,7 +84,7 @@ fn creases(rt: HostRuntime) {
 const OVER: &[u8] = b"- M 0,1/2 1,1/2\n+ M 0,1/2 1/4,1/2\n+ V 1/4,1/2 3/4,1/2\n+ M 3/4,1/2 1,1/2\n";
 
 #[test]
-fn deltas(rt: HostRuntime) -> Result<(), Fail> {
+fn texts_of_deltas_are_read(rt: HostRuntime) -> Result<(), Fail> {
     for text in [
         b"".as_slice(),
         OVER,
@@ -114,7 +113,7 @@ fn deltas(rt: HostRuntime) -> Result<(), Fail> {
 }
 
 #[test]
-fn delta_over_the_middle(rt: HostRuntime) -> Result<(), Fail> {
+fn a_delta_leads_over_the_middle(rt: HostRuntime) -> Result<(), Fail> {
     let alloc = rt.alloc();
     let old = read_pattern(alloc, b"q2 1\nM 0,1/2 1,1/2\n")?;
     let Some(delta) = read_delta(alloc, OVER)? else {
@@ -146,14 +145,14 @@ fn pattern_with(alloc: Global, texts: &[&str]) -> Result<Vec<u8>, Fail> {
 }
 
 #[test]
-fn creases_in_any_order(rt: HostRuntime) -> Result<(), Fail> {
+fn creases_come_in_any_order(rt: HostRuntime) -> Result<(), Fail> {
     let text = pattern_with(rt.alloc(), &["V 0,1 1,0", "A 1/2,0 1/2,1", "M 0,0 1,1"])?;
     assert!(rt; text.as_slice() == b"q2 1\nM 0,0 1,1\nV 0,1 1,0\nA 1/2,0 1/2,1\n".as_slice());
     Ok(())
 }
 
 #[test]
-fn creases_of_no_pattern(rt: HostRuntime) -> Result<(), Fail> {
+fn some_creases_are_of_no_pattern(rt: HostRuntime) -> Result<(), Fail> {
     for other in [
         // twice, and over another
         "V 0,1 1,0",

@@ -180,7 +180,7 @@ vertices_of_chains pattern vs l up c e k = record {
 }
 
 -- another triple of a vertex is a vertex
-vertex_moved : (pattern : ExactPattern) → AreLines pattern → (u v : ExactPoint) → SamePoint u v → IsVertex pattern u → IsVertex pattern v
+pub vertex_moved : (pattern : ExactPattern) → AreLines pattern → (u v : ExactPoint) → SamePoint u v → IsVertex pattern u → IsVertex pattern v
 vertex_moved pattern l u v e h = elim h [
   | inl c ↦ inl (c.0, c.1, same_trans v u c.0 (same_back u v e) c.2)
   | inr y ↦ elim y [

@@ -18,15 +18,6 @@ pub record AreFirstRays (marks : List (Option Mark)) (n : ℕ) (rays : List Ray)
   pub sound : (r : Ray) → Contains rays r → (r.dir < n) × (slice_get marks r.dir ≡ Some (Some r.mark))
   pub whole : (r : Ray) → r.dir < n → slice_get marks r.dir ≡ Some (Some r.mark) → Contains rays r
 
-pub no_rays : (marks : List (Option Mark)) → AreFirstRays marks 0 []
-no_rays marks = record {
-  few = omega arith;
-  ascends = λ i h. absurd (omega arith);
-  below = λ i h. absurd (omega arith);
-  sound = λ r c. absurd (omega (arith, c.1));
-  whole = λ r h e. absurd (omega arith);
-}
-
 made : (a b : ℕ) (m n : Mark) → a ≡ b → m ≡ n → (let r : Ray = record { dir = a; mark = m } in r) ≡ record { dir = b; mark = n }
 made a b m n e f = cc
 

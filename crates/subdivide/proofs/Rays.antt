@@ -18,7 +18,7 @@ use Rattle.subdivide.specs.Subdivision.{IsVertex, IsEdge}
 use Rattle.subdivide.specs.Chain.{AreLines}
 use Rattle.subdivide.specs.Star.{marked_kind, GoesOut, StarOf}
 use Rattle.subdivide.specs.declared.edge.EdgeKind.{EdgeKind}
-use Rattle.subdivide.proofs.Cutting.{on_seg_moved, one_kind}
+use Rattle.subdivide.proofs.Cutting.{on_seg_moved, vertex_moved, one_kind}
 
 abbrev pub joining : ExactPoint → ExactPoint → ExactSegment
 joining p q = record { p = p; q = q }
@@ -54,32 +54,6 @@ edge_moved pattern l p q u v kind a b x y e =
         λ z i o f g. e.line.4 z i o (same_before u p z (same_back p u a) f) (before_same z v q (same_back q v b) g),
       );
     }
-
-pub vertex_moved : (pattern : ExactPattern) → AreLines pattern → (v w : ExactPoint) → SamePoint v w → IsVertex pattern v → IsVertex pattern w
-vertex_moved pattern l v w s x = elim x [
-  | inl c ↦ inl (c.0, c.1, same_trans w v c.0 (same_back v w s) c.2)
-  | inr y ↦ elim y [
-    | inl f ↦ inr (inl (
-      f.0,
-      f.1,
-      elim f.2 [
-        | inl e ↦ inl (same_trans w v f.0.seg.p (same_back v w s) e)
-        | inr e ↦ inr (same_trans w v f.0.seg.q (same_back v w s) e)
-      ],
-    ))
-    | inr c ↦ (let a = l.along c.0 c.2 in let b = l.along c.1 c.3 in
-        inr (inr (
-          c.0,
-          c.1,
-          c.2,
-          c.3,
-          record {
-            here = (on_seg_moved c.0 a.0 v w a.1 s c.4.here.0, on_seg_moved c.1 b.0 v w b.1 s c.4.here.1);
-            only = λ u h. same_trans u v w (c.4.only u h) s;
-          },
-        )))
-  ]
-]
 
 pub one_marked : (m n : Mark) → marked_kind m ≡ marked_kind n → m ≡ n
 one_marked mark.M mark.M e = refl

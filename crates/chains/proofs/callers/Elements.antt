@@ -1,7 +1,8 @@
 -- Elements of lists, and the places of bytes.
-use Rattle.std.proofs.Common.{◌≡◌, ℕ, zero, suc, ◌<◌, ◌≤◌, Bool, true, false, cond, List, [], ◌∷◌, length, Some, None, refl, ◌⊎◌, inl, inr, arith}
+use Rattle.std.proofs.Common.{◌≡◌, ◌≢◌, ◌==◌, ℕ, zero, suc, ◌<◌, ◌≤◌, Bool, true, false, cond, List, [], ◌∷◌, length, Some, None, refl, sym, ◌∙◌, ◌⊎◌, inl, inr, arith}
 use Rattle.std.specs.Prelude.{Contains, slice_index_or, position, nat_lt}
 use Rattle.std.specs.List.{position_or_len}
+use Rattle.std.proofs.lemmas.Bool.{eqb-true}
 use Rattle.std.proofs.lemmas.Bool.Decides.{nat_tests}
 
 -- elements of a list with one more in front
@@ -21,6 +22,15 @@ has_cases x y xs c = has_by x y xs c.0 c.1 c.2
 
 pub has_none : {X : Type 0} (y : X) → Contains [] y → ⊥
 has_none y c = let l = c.1 in omega arith
+
+-- whether a list has elements, as its length tells
+pub no_elements : {X : Type 0} (xs : List X) (b : Bool) → b ≡ (length xs == 0) → b ≡ true → xs ≡ []
+no_elements [] b e f = refl
+no_elements (x ∷ xs) b e f = absurd (let l : length (x ∷ xs) ≡ 0 = eqb-true (length (x ∷ xs)) 0 (sym e ∙ f) in omega (arith, l))
+
+pub some_elements : {X : Type 0} (xs : List X) (b : Bool) → b ≡ (length xs == 0) → b ≡ false → xs ≢ []
+some_elements [] b e f = λ h. cc
+some_elements (x ∷ xs) b e f = λ h. cc
 
 -- the parts of equal lists
 pub same_heads : {b c : ℕ} {bs cs : List ℕ} → b ∷ bs ≡ c ∷ cs → b ≡ c

@@ -1,10 +1,8 @@
 -- A text that is read line by line.
-use Rattle.std.proofs.Common.{◌≡◌, ◌≢◌, ℕ, ◌+◌, Bool, true, false, List, [], ◌∷◌, ◌++◌, length, refl, sym, subst, ap, ◌∙◌, arith}
+use Rattle.std.proofs.Common.{◌≡◌, ◌≢◌, ℕ, ◌+◌, List, [], ◌∷◌, ◌++◌, length, refl, sym, subst, ap, ◌∙◌, arith}
 use Rattle.std.specs.Prelude.{Ok, Err}
 use Rattle.std.proofs.lemmas.List.{append-nil, length_push}
 use Rattle.std.proofs.lemmas.List.Elements.{All-nil, All-push}
-use Rattle.std.specs.Bool.{◌==◌}
-use Rattle.qroot2.proofs.callers.Reading.{none_long, some_long}
 use Rattle.sheet.specs.Pattern.{ExactCrease}
 use Rattle.lines.specs.Lines.{IsFirstLine}
 use Rattle.ports.specs.declared.stop.Stop.{Stop}
@@ -104,10 +102,3 @@ read_bad r bytes rest line after t number (stop.Why w) n f k e h =
       number = e ∙ ap (λ (s : Tally). s.lines + 1) h.tally;
       why = k;
     }
-
-pub no_bytes : (bytes : List ℕ) (b : Bool) → b ≡ (length bytes == 0) → b ≡ true → bytes ≡ []
-no_bytes [] b e f = refl
-no_bytes (x ∷ bytes) b e f = absurd (let n = none_long b (length (x ∷ bytes)) e f in omega arith)
-
-pub some_bytes : (bytes : List ℕ) (b : Bool) → b ≡ (length bytes == 0) → b ≡ false → bytes ≢ []
-some_bytes bytes b e f n = (let p = some_long b (length bytes) e f in let q = ap length n in omega arith)

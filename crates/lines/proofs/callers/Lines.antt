@@ -19,7 +19,7 @@ one_cut c (x ∷ xs) (y ∷ ys) zs bs h k e =
     let q = r.0 in
     ((λ i. p i ∷ q i), r.1)
 
-has_behind : (c : ℕ) (xs zs : List ℕ) → Contains (xs ++ c ∷ zs) c
+pub has_behind : (c : ℕ) (xs zs : List ℕ) → Contains (xs ++ c ∷ zs) c
 has_behind c xs zs = Contains-append_right xs (c ∷ zs) c (head_has c c zs refl)
 
 one_last : (c : ℕ) (xs ys : List ℕ) → xs ++ c ∷ [] ≡ ys ++ c ∷ [] → xs ≡ ys

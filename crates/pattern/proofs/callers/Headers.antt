@@ -1,10 +1,10 @@
 -- The first line of native text is that of one sheet.
-use Rattle.std.proofs.Common.{◌≡◌, ◌≢◌, ℕ, zero, suc, ◌+◌, List, [], ◌∷◌, ◌++◌, length, get_or, drop, refl, sym, ap, ◌∙◌, ◌⊎◌, inl, inr, arith}
+use Rattle.std.proofs.Common.{◌≡◌, ◌≢◌, ℕ, zero, suc, ◌+◌, List, [], ◌∷◌, ◌++◌, get_or, drop, refl, sym, ap, ◌∙◌, ◌⊎◌, inl, inr, arith}
 use Rattle.std.proofs.lemmas.List.{append_cancel_left}
-use Rattle.sheet.specs.Sheet.{ExactSheet, IsSheet, square}
+use Rattle.sheet.specs.Sheet.{ExactSheet, square}
+use Rattle.sheet.proofs.callers.Sheets.{same_sheet}
 use Rattle.pattern.specs.NativeText.{square_line, other_start, header_of, header}
 use Rattle.pattern.specs.NativeReading.{HasNoHeader}
-use Rattle.pattern.specs.NativeReader.{HasHeader}
 use Rattle.pattern.specs.NativeHeader.{AreDigits}
 
 abbrev pub other_line : ℕ → ℕ → List ℕ
@@ -17,13 +17,10 @@ line_of (suc zero) (suc zero) = inl (refl, refl)
 line_of (suc zero) (suc (suc h)) = inr (λ e. omega (arith, e.1), refl)
 line_of (suc (suc w)) h = inr (λ e. omega (arith, e.0), refl)
 
-pub made : (sheet other : ExactSheet) → sheet.w ≡ other.w → sheet.h ≡ other.h → sheet ≡ other
-made sheet other e f = λ i. record { w = e i; h = f i }
-
 -- the line of the square, or of another sheet
 pub header_is : (sheet : ExactSheet) → ((sheet ≡ square) × (header sheet ≡ square_line)) ⊎ ((¬ (sheet ≡ square)) × (header sheet ≡ other_line sheet.w sheet.h))
 header_is sheet = elim (line_of sheet.w sheet.h) [
-  | inl e ↦ (let same = made sheet square e.0 e.1 in inl (same, ap header same))
+  | inl e ↦ (let same = same_sheet sheet square e.0 e.1 in inl (same, ap header same))
   | inr e ↦ inr (λ s. e.0 (ap (λ (x : ExactSheet). x.w) s, ap (λ (x : ExactSheet). x.h) s), e.1)
 ]
 
@@ -47,7 +44,7 @@ one_header sheet other a b e = elim (header_is sheet) [
     both f =
         let wide : 48 + sheet.w ≡ 48 + other.w = ap (λ t. get_or t 5 0) f in
         let high : 48 + sheet.h ≡ 48 + other.h = ap (λ t. get_or t 7 0) f in
-        (made sheet other (omega (arith, wide)) (omega (arith, high)), ap (drop 9) f)
+        (same_sheet sheet other (omega (arith, wide)) (omega (arith, high)), ap (drop 9) f)
 
 -- another sheet's line begins as such a line does, with its digits
 other_begins : (bytes rest : List ℕ) (sheet : ExactSheet) → ((rest : List ℕ) → bytes ≢ square_line ++ rest) → bytes ≡ header sheet ++ rest → (¬ (sheet ≡ square)) × (bytes ≡ other_line sheet.w sheet.h ++ rest)

@@ -1,5 +1,5 @@
 -- A line of native text is cut in one way into its letter, its two ends and their numbers.
-use Rattle.std.proofs.Common.{◌≡◌, ◌≢◌, ℕ, ◌<◌, ◌≤◌, List, [], ◌∷◌, ◌++◌, length, get_or, drop, refl, sym, ap, subst, ◌∙◌, arith, ◌⊎◌, inl, inr}
+use Rattle.std.proofs.Common.{◌≡◌, ◌≢◌, ℕ, ◌≤◌, List, ◌∷◌, ◌++◌, refl, sym, ap, subst, ◌∙◌, arith, inl, inr}
 use Rattle.std.specs.Prelude.{Contains, Result, Ok, Err}
 use Rattle.std.proofs.lemmas.List.Elements.{Contains-append_cases, Contains-append_right}
 use Rattle.exact.specs.Number.{ExactNumber, IsCanonical}
@@ -98,7 +98,7 @@ ReadsEnds ends (Err Range) = (p q : ExactPoint) × IsPointSpelled p × IsPointSp
 pub spelled_point : (p : ExactPoint) → IsPointCanonical p → IsPointSpelled p
 spelled_point p c = record { x = canonical_spelled p.x c.0; y = canonical_spelled p.y c.1 }
 
-both_texts : (ends from to : List ℕ) (p q : ExactPoint) → SplitsAt ends 32 from to → from ≡ point_text p → to ≡ point_text q → ends ≡ point_text p ++ 32 ∷ point_text q
+pub both_texts : (ends from to : List ℕ) (p q : ExactPoint) → SplitsAt ends 32 from to → from ≡ point_text p → to ≡ point_text q → ends ≡ point_text p ++ 32 ∷ point_text q
 both_texts ends from to p q s e f = s.joined ∙ ap (λ t. t ++ 32 ∷ to) e ∙ ap (λ t. point_text p ++ 32 ∷ t) f
 
 ends_read : (ends from to : List ℕ) (r s : Result ExactPoint NumText) → SplitsAt ends 32 from to → ReadsEnd from r → ReadsEnd to s → ReadsEnds ends (both_of r s)

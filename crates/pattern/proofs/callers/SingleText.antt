@@ -1,5 +1,5 @@
 -- A text is that of one segment, and of one crease.
-use Rattle.std.proofs.Common.{◌≡◌, ◌≢◌, ℕ, List, ◌∷◌, ◌++◌, get_or, drop, refl, sym, ap, subst, ◌∙◌, inl, inr, arith}
+use Rattle.std.proofs.Common.{◌≡◌, ◌≢◌, ℕ, List, get_or, drop, refl, sym, ap, subst, ◌∙◌, inl, inr, arith}
 use Rattle.std.specs.Prelude.{Ok, Err, Result, Option, Some, None, IfSome, IfOk}
 use Rattle.std.specs.Result.{result_ok}
 use Rattle.exact.specs.Plane.{ExactPoint, ExactSegment, IsSegment, Before, IsPointCanonical}
@@ -13,8 +13,9 @@ use Rattle.pattern.specs.NativeText.{seg_text, crease_text}
 use Rattle.pattern.specs.NativeLines.{ReadsEnd}
 use Rattle.pattern.specs.SingleText.{IsSegText, IsCreaseText}
 use Rattle.pattern.specs.Splitting.{SplitsAt}
+use Rattle.creases.proofs.callers.Members.{crease_same}
 use Rattle.pattern.proofs.Splits.{one_split}
-use Rattle.pattern.proofs.callers.LineText.{point_unmarked, spelled_point}
+use Rattle.pattern.proofs.callers.LineText.{point_unmarked, spelled_point, both_texts}
 use Rattle.pattern.proofs.Placing.{ends_in_order}
 use Rattle.pattern.proofs.callers.OneText.{letter_of_one, point_of_one}
 
@@ -27,9 +28,6 @@ no_end bytes Range p r c e = r.3 (subst IsPointCanonical (point_of_one p r.0 (sp
 pub halves : (bytes from to : List ℕ) (s : ExactSegment) → SplitsAt bytes 32 from to → bytes ≡ seg_text s → (from ≡ point_text s.p) × (to ≡ point_text s.q)
 halves bytes from to s c e = one_split 32 from to (point_text s.p) (point_text s.q) c.first (point_unmarked s.p 32 (inr (inl refl)) (λ h. omega (arith, h))) (sym c.joined ∙ e)
 
-pub seg_joined : (bytes from to : List ℕ) (p q : ExactPoint) → SplitsAt bytes 32 from to → from ≡ point_text p → to ≡ point_text q → bytes ≡ point_text p ++ 32 ∷ point_text q
-seg_joined bytes from to p q c e f = c.joined ∙ ap (λ t. t ++ 32 ∷ to) e ∙ ap (λ t. point_text p ++ 32 ∷ t) f
-
 pub seg_made : (s t : ExactSegment) → s.p ≡ t.p → s.q ≡ t.q → s ≡ t
 seg_made s t e f = λ i. record { p = e i; q = f i }
 
@@ -38,13 +36,10 @@ one_seg bytes s t a b =
     let two = one_split 32 (point_text s.p) (point_text s.q) (point_text t.p) (point_text t.q) (point_unmarked s.p 32 (inr (inl refl)) (λ h. omega (arith, h))) (point_unmarked t.p 32 (inr (inl refl)) (λ h. omega (arith, h))) (sym a.text ∙ b.text) in
     seg_made s t (point_of_one s.p t.p (spelled_point s.p a.held.from) (spelled_point t.p b.held.from) two.0) (point_of_one s.q t.q (spelled_point s.q a.held.to) (spelled_point t.q b.held.to) two.1)
 
-crease_made : (f g : ExactCrease) → f.seg ≡ g.seg → f.colour ≡ g.colour → f ≡ g
-crease_made f g s c = λ i. record { seg = s i; colour = c i }
-
 pub one_crease_text : (bytes : List ℕ) (f g : ExactCrease) → IsCreaseText bytes f → IsCreaseText bytes g → f ≡ g
 one_crease_text bytes f g a b =
     let same : crease_text f ≡ crease_text g = sym a.text ∙ b.text in
-    crease_made f g (one_seg (seg_text f.seg) f.seg g.seg (record { held = a.held; text = refl }) (record { held = b.held; text = ap (drop 2) same })) (letter_of_one f.colour g.colour (ap (λ t. get_or t 0 0) same))
+    crease_same f g (one_seg (seg_text f.seg) f.seg g.seg (record { held = a.held; text = refl }) (record { held = b.held; text = ap (drop 2) same })) (letter_of_one f.colour g.colour (ap (λ t. get_or t 0 0) same))
 
 -- ---- what the reading of the ends gives as an option
 pub end_missing : (bytes : List ℕ) (o : Option ExactPoint) (r : Result ExactPoint NumText) → o ≡ result_ok r → o ≡ None → ReadsEnd bytes r → (p : ExactPoint) → IsPointCanonical p → bytes ≢ point_text p
@@ -68,7 +63,7 @@ between_some o (Err w) p q e b h k = subst (λ (x : Option ExactSegment). IfSome
 
 pub seg_read : (bytes from to : List ℕ) (p q : ExactPoint) (o : Option ExactSegment) → SplitsAt bytes 32 from to → from ≡ point_text p → to ≡ point_text q → IfSome o (λ s. IsHeld s × (s ≡ between p q)) → IfSome o (IsSegText bytes)
 seg_read bytes from to p q None c e f h = tt
-seg_read bytes from to p q (Some s) c e f h = record { held = h.0; text = seg_joined bytes from to p q c e f ∙ ap seg_text (sym h.1) }
+seg_read bytes from to p q (Some s) c e f h = record { held = h.0; text = both_texts bytes from to p q c e f ∙ ap seg_text (sym h.1) }
 
 -- the text of a segment whose ends are these points is read as theirs
 pub ends_of_text : (bytes from to : List ℕ) (p q : ExactPoint) (s : ExactSegment) → SplitsAt bytes 32 from to → from ≡ point_text p → to ≡ point_text q → IsPointCanonical p → IsPointCanonical q → IsSegText bytes s → s ≡ between p q

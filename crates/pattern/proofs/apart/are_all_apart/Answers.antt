@@ -5,11 +5,9 @@ use Rattle.sheet.specs.Pattern.{ExactCrease}
 use Rattle.std.proofs.lemmas.List.{take_rest}
 use Rattle.pattern.specs.Fitting.{AreApart}
 use Rattle.pattern.proofs.Beside.{rest_after, beside_next, beside_fails, beside_all}
+use Rattle.pattern.proofs.Parts.{seg_of}
 use Rattle.pattern.proofs.callers.Told.{refuted, shown, answers_no, answers_yes}
 use Rattle.pattern.proofs.apart.are_all_apart.Goals as goal
-
-seg_of : (f g : ExactCrease) → f ≡ g → f.seg ≡ g.seg
-seg_of f g e = λ i. (e i).seg
 
 -- the segment of the element, and the rest behind it
 at_rest : (P : ExactSegment → List ExactCrease → Type 0) (s t : ExactSegment) (rest behind : List ExactCrease) → s ≡ t → rest ≡ behind → P s rest → P t behind

@@ -1,16 +1,14 @@
-use Rattle.std.proofs.Common.{◌≡◌, sym, subst}
+use Rattle.std.proofs.Common.{sym, subst}
 use Rattle.std.specs.Prelude.{All}
 use Rattle.exact.specs.Plane.{ExactPoint, ExactSegment, Before, SegmentBefore, Overlap}
 use Rattle.sheet.specs.Pattern.{ExactCrease}
 use Rattle.pattern.proofs.Beside.{rest_apart, begins_before}
+use Rattle.pattern.proofs.Parts.{seg_of}
 use Rattle.pattern.proofs.callers.Told.{all_next, all_tested, one_fails, refuted, shown, answers_no, answers_yes}
 use Rattle.pattern.proofs.apart.is_apart_from.Goals as goal
 
 abbrev IsApart : ExactSegment → ExactCrease → Type 0
 IsApart s f = ¬ Overlap s f.seg
-
-seg_of : (f g : ExactCrease) → f ≡ g → f.seg ≡ g.seg
-seg_of f g e = λ i. (e i).seg
 
 pub returns-then-not-is_before : goal.returns-then-not-is_before
 returns-then-not-is_before c =

@@ -1,9 +1,10 @@
-use Rattle.std.proofs.Common.{◌≡◌, List, sym, subst, refl}
+use Rattle.std.proofs.Common.{List, sym, subst, refl}
 use Rattle.std.proofs.lemmas.List.{take_all}
 use Rattle.sheet.specs.Pattern.{ExactCrease, IsKey}
 use Rattle.creases.specs.Creases.{IsFree, AreWith}
 use Rattle.pattern.specs.Fitting.{CanCome}
 use Rattle.pattern.proofs.Stepping.{AreMore, can_come_none, can_come_next, more_none, more_next, not_key, not_free}
+use Rattle.pattern.proofs.Parts.{seg_of}
 use Rattle.pattern.proofs.callers.Told.{refuted, shown, answers_no}
 use Rattle.pattern.proofs.step.put_all.Goals as goal
 
@@ -15,9 +16,6 @@ returns-clause-all c = (λ _. subst (λ (xs : List ExactCrease). CanCome c.args.
 
 pub returns-clause-more : goal.returns-clause-more
 returns-clause-more c = λ _. subst (λ (xs : List ExactCrease). AreMore c.args.creases.now xs c.loop-crease.creases) (take_all c.loop-crease.crease-index c.args.come.now c.loop-crease-test.false) c.loop-crease.invariant.more
-
-seg_of : (f g : ExactCrease) → f ≡ g → f.seg ≡ g.seg
-seg_of f g e = λ i. (e i).seg
 
 pub returns-then-not-is_key-clause-all : goal.returns-then-not-is_key-clause-all
 returns-then-not-is_key-clause-all c =

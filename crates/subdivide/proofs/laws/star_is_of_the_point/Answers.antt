@@ -1,5 +1,6 @@
 use Rattle.subdivide.proofs.PatternLines.{pattern_lines}
-use Rattle.subdivide.proofs.Rays.{vertex_moved, star_moved}
+use Rattle.subdivide.proofs.Cutting.{vertex_moved}
+use Rattle.subdivide.proofs.Rays.{star_moved}
 use Rattle.subdivide.proofs.laws.star_is_of_the_point.Goals as goal
 
 pub returns : goal.returns

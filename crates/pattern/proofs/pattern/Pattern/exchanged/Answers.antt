@@ -1,23 +1,17 @@
 use Rattle.std.proofs.Common.{◌≡◌, ◌≤◌, List, length, sym, subst, arith}
-use Rattle.std.specs.Prelude.{All, Contains}
 use Rattle.sheet.specs.Sheet.{ExactSheet}
-use Rattle.sheet.specs.Pattern.{ExactCrease, ExactPattern, crease_limit}
+use Rattle.sheet.specs.Pattern.{ExactCrease, crease_limit}
 use Rattle.pattern.specs.Deltas.{Fits, Leads}
 use Rattle.pattern.specs.Fitting.{CanCome}
 use Rattle.pattern.specs.NativeReader.{on}
 use Rattle.pattern.proofs.Stepping.{AreLeft, leads_made, fits_made, fits_comes, fits_few}
+use Rattle.pattern.proofs.Parts.{creases_are, there_in}
 use Rattle.pattern.proofs.callers.Told.{refuted, shown, answers_no, answers_yes}
 use Rattle.pattern.proofs.pattern.Pattern.exchanged.Goals as goal
-
-creases_are : (x y : ExactPattern) → x ≡ y → x.creases ≡ y.creases
-creases_are x y e = λ i. (e i).creases
 
 -- said of the creases and the sheet of the pattern
 left_of : (xs ys gone one : List ExactCrease) → xs ≡ ys → AreLeft xs gone one → AreLeft ys gone one
 left_of xs ys gone one e h = subst (λ (zs : List ExactCrease). AreLeft zs gone one) e h
-
-there_in : (xs ys gone : List ExactCrease) → xs ≡ ys → All (λ f. Contains xs f) gone → All (λ f. Contains ys f) gone
-there_in xs ys gone e h = subst (λ (zs : List ExactCrease). All (λ (f : ExactCrease). Contains zs f) gone) e h
 
 come_on : (sheet other : ExactSheet) (one come : List ExactCrease) → sheet ≡ other → CanCome sheet one come → CanCome other one come
 come_on sheet other one come e h = subst (λ (s : ExactSheet). CanCome s one come) e h

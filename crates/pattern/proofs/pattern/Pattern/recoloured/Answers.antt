@@ -1,20 +1,13 @@
 use Rattle.std.proofs.Common.{◌≡◌, List, length, sym, ap, subst, ◌∙◌}
-use Rattle.std.specs.Prelude.{All, Contains}
 use Rattle.sheet.specs.Sheet.{ExactSheet}
-use Rattle.sheet.specs.Pattern.{ExactCrease, ExactPattern}
+use Rattle.sheet.specs.Pattern.{ExactCrease}
 use Rattle.pattern.specs.Deltas.{Fits, Leads}
 use Rattle.pattern.specs.Fitting.{AreExchanged}
 use Rattle.pattern.specs.NativeReader.{on}
 use Rattle.pattern.proofs.Recolouring.{leads_recoloured, fits_recoloured}
+use Rattle.pattern.proofs.Parts.{creases_are, there_in}
 use Rattle.pattern.proofs.callers.Told.{refuted, shown, answers_no, answers_yes}
 use Rattle.pattern.proofs.pattern.Pattern.recoloured.Goals as goal
-
-creases_are : (x y : ExactPattern) → x ≡ y → x.creases ≡ y.creases
-creases_are x y e = λ i. (e i).creases
-
--- said of the creases of the pattern
-there_in : (xs ys gone : List ExactCrease) → xs ≡ ys → All (λ f. Contains xs f) gone → All (λ f. Contains ys f) gone
-there_in xs ys gone e h = subst (λ (zs : List ExactCrease). All (λ (f : ExactCrease). Contains zs f) gone) e h
 
 exchanged_in : (xs ys gone come now : List ExactCrease) → xs ≡ ys → AreExchanged xs gone come now → AreExchanged ys gone come now
 exchanged_in xs ys gone come now e h = subst (λ (zs : List ExactCrease). AreExchanged zs gone come now) e h
