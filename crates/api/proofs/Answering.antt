@@ -6,6 +6,7 @@ use Rattle.std.proofs.lemmas.List.{take-append-le, take_all}
 use Rattle.ports.specs.declared.stop.Stop.{Stop}
 use Rattle.ports.specs.declared.stop.Stop.TheVariants as stop
 use Rattle.ports.specs.Stops.{Answers, Refuses}
+use Rattle.ports.specs.Taken.{Gave, IsSpent}
 use Rattle.httparse.specs.Grammar.{RequestHead, print_request, print_blank}
 use Rattle.httparse.proofs.GrammarLemmas.{print_request-append}
 use Rattle.httparse.specs.declared.spans.HeaderSpan.{HeaderSpan}
@@ -24,11 +25,11 @@ use Rattle.api.specs.declared.plan.Plan.{Plan}
 use Rattle.api.specs.Requests.{Request, Says}
 use Rattle.api.specs.Lengths.{lengths, body_length, body}
 use Rattle.api.specs.Tests.{Passes, PassesBefore, Fails}
-use Rattle.api.specs.Answers.{Gave, all_of, AskOf, IsRefused, Reads}
+use Rattle.api.specs.Answers.{all_of, AskOf, IsRefused, Reads}
 use Rattle.api.specs.Fields.{pairs}
-use Rattle.api.specs.Stages.{IsSpent, IsFault, IsHead, IsWhole, IsShort, refusal}
+use Rattle.api.specs.Stages.{IsFault, IsHead, IsWhole, IsShort, refusal}
 use Rattle.api.specs.Plans.{said, IsSaid, EndsFailed, IsPlan, AsksBy, ReadsOn}
-use Rattle.api.proofs.Pieces.{gave_nothing, gave_more}
+use Rattle.ports.proofs.callers.Taken.{gave_nothing, gave_more}
 use Rattle.api.proofs.Heads.{rest_of, all_is, not_empty}
 use Rattle.api.proofs.HeadEnds.{refuses, fault_ends}
 

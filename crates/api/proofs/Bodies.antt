@@ -3,10 +3,10 @@ use Rattle.std.proofs.Common.{◌≡◌, ◌∙◌, ℕ, List, ◌++◌, sym, ap
 use Rattle.std.specs.Prelude.{Option, Result, Err, IsErrAnd}
 use Rattle.std.proofs.lemmas.Result.{err_from_is_err_and}
 use Rattle.ports.specs.declared.stop.Stop.{Stop}
+use Rattle.ports.specs.Taken.{Gave}
 use Rattle.api.specs.declared.ask.AskEnd.{AskEnd}
-use Rattle.api.specs.Answers.{Gave}
 use Rattle.api.specs.Stages.{IsFault, IsFilled, ReadsBody}
-use Rattle.api.proofs.Pieces.{gave_more}
+use Rattle.ports.proofs.callers.Taken.{gave_more}
 
 pub body_fails : (old mid new : Option (List ℕ)) (behind : List ℕ) (len : ℕ) (body : List ℕ) (end : Stop AskEnd) (r : Result (List ℕ) (Stop AskEnd))
     → IsFilled old mid behind len body → ((got : List ℕ) × Gave mid new got × IsFault end) → IsErrAnd r (λ e. e ≡ end) → ReadsBody old new behind len r

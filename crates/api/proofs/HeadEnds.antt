@@ -1,10 +1,12 @@
 -- How the reading of a head ends without one.
 use Rattle.std.proofs.Common.{◌≡◌, ◌≢◌, ◌∙◌, ℕ, ◌+◌, ◌≤◌, ◌<◌, List, [], ◌∷◌, ◌++◌, length, sym, ap, subst, refl, append-nil, length-append, arith, ◌⊎◌, inl, inr}
 use Rattle.std.specs.Prelude.{Option, None, Result, Err, IsErrAnd}
+use Rattle.std.proofs.lemmas.List.{nil_from_length}
 use Rattle.std.proofs.lemmas.Result.{err_from_is_err_and}
 use Rattle.ports.specs.declared.stop.Stop.{Stop}
 use Rattle.ports.specs.declared.stop.Stop.TheVariants as stop
 use Rattle.ports.specs.Stops.{Refuses}
+use Rattle.ports.specs.Taken.{Gave, IsSpent}
 use Rattle.httparse.specs.Grammar.{NeverHasRequest}
 use Rattle.httparse.specs.declared.spans.HeaderSpan.{HeaderSpan}
 use Rattle.httparse.specs.declared.spans.RequestSpans.{RequestSpans}
@@ -13,9 +15,9 @@ use Rattle.api.specs.declared.ask.AskEnd.TheVariants.{Failed, Closed, Bad}
 use Rattle.api.specs.declared.bad.BadWhy.{BadWhy}
 use Rattle.api.specs.declared.bad.BadWhy.TheVariants as why
 use Rattle.api.specs.Requests.{head_limit}
-use Rattle.api.specs.Answers.{Gave, all_of, AskOf, IsRefused}
-use Rattle.api.specs.Stages.{IsFault, IsOpen, IsSpent, Took, Ends, ReadsHead, refusal, cut_off}
-use Rattle.api.proofs.Pieces.{gave_more}
+use Rattle.api.specs.Answers.{all_of, AskOf, IsRefused}
+use Rattle.api.specs.Stages.{IsFault, IsOpen, Took, Ends, ReadsHead, refusal, cut_off}
+use Rattle.ports.proofs.callers.Taken.{gave_more}
 use Rattle.api.proofs.Heads.{all_spent, all_not_empty, broken, ended, endless}
 
 pub fault_ends : (bytes : List ℕ) (end : Stop AskEnd) → IsFault end → Refuses (AskOf bytes) end
@@ -38,16 +40,12 @@ head_fails old mid new before bytes spans end r g h is =
 pub refuses : (bytes : List ℕ) (w : BadWhy) → bytes ≢ [] → IsRefused bytes w None → Refuses (AskOf bytes) (refusal w)
 refuses bytes w some is = record { some = some; status = refl; refused = is }
 
-pub no_piece : (piece : List ℕ) → length piece ≡ 0 → piece ≡ []
-no_piece [] e = refl
-no_piece (b ∷ piece) e = absurd (omega arith)
-
 pub cut_ends : (old mid new : Option (List ℕ)) (before bytes : List ℕ) (most count : ℕ) → Gave old mid before → Took mid new before bytes most count
     → count ≡ 0 → length before < head_limit → (before ≡ []) ⊎ IsOpen before → Ends old new (cut_off bytes)
 cut_ends old mid new before bytes most count g t none short begun =
     record { got = bytes; gave = subst (Gave old new) (sym t.added) (gave_more old mid new before t.piece g t.gave); answer = pick bytes same (t.ended none) } where
       same : bytes ≡ before
-      same = t.added ∙ ap (λ p. before ++ p) (no_piece t.piece (t.size ∙ none)) ∙ append-nil before
+      same = t.added ∙ ap (λ p. before ++ p) (nil_from_length t.piece (t.size ∙ none)) ∙ append-nil before
 
       pick : (b : List ℕ) → b ≡ before → IsSpent new → Refuses (AskOf (all_of b new)) (cut_off b)
       pick [] e s = all_spent [] new s

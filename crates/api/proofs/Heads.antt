@@ -2,10 +2,11 @@
 use Rattle.std.proofs.Common.{◌≡◌, ◌≢◌, ◌∙◌, ℕ, ◌+◌, ◌-◌, ◌≤◌, ◌<◌, List, [], ◌∷◌, ◌++◌, length, take, sym, ap, subst, refl, append_assoc, append-nil, length-append, arith, inl, inr}
 use Rattle.std.specs.Prelude.{Option, Some, None}
 use Rattle.std.proofs.Math.Seq.{take-append_seam, take-append-add}
+use Rattle.ports.specs.Taken.{IsSpent}
 use Rattle.httparse.specs.Grammar.{HasNoRequest, NeverHasRequest, MayBecomeRequest}
 use Rattle.api.specs.Requests.{head_limit, front, IsBroken, IsEndless}
 use Rattle.api.specs.Answers.{all_of}
-use Rattle.api.specs.Stages.{IsSpent, IsOpen}
+use Rattle.api.specs.Stages.{IsOpen}
 
 -- the bytes that came are at the front of all, and the rest is what is left
 abbrev pub rest_of : Option (List ℕ) → List ℕ

@@ -3,6 +3,7 @@ use Rattle.std.specs.Prelude.{◌≡◌, ◌≢◌, ℕ, ◌⊎◌, List, [], �
 use Rattle.std.specs.Prelude.{Err}
 use Rattle.ports.specs.declared.stop.Stop.{Stop}
 use Rattle.ports.specs.Stops.{Answers}
+use Rattle.ports.specs.Taken.{Gave}
 use Rattle.api.specs.declared.ask.Ask.{Ask}
 use Rattle.api.specs.declared.ask.AskEnd.{AskEnd}
 use Rattle.api.specs.declared.ask.AskEnd.TheVariants.{Failed, Closed, Bad}
@@ -31,13 +32,6 @@ AskOf bytes (Ok ask) = (r : Request) × Says bytes r × AsksFor r ask.text
 AskOf bytes (Err Closed) = bytes ≡ []
 AskOf bytes (Err (Bad bad)) = IsBad bytes bad
 AskOf bytes (Err Failed) = Unit {0}
-
--- these bytes were taken from the front of a source that tells what is left
-abbrev pub Gave : Option (List ℕ) → Option (List ℕ) → List ℕ → Type 0
-Gave None None got = Unit {0}
-Gave None (Some new) got = ⊥
-Gave (Some old) None got = ⊥
-Gave (Some old) (Some new) got = old ≡ got ++ new
 
 -- all bytes of a source: those that it gave, and what is left where it tells that
 abbrev pub all_of : List ℕ → Option (List ℕ) → List ℕ

@@ -22,7 +22,8 @@ use Rattle.api.specs.Requests.{Request, Says}
 use Rattle.api.specs.Lengths.{codings, lengths, IsSmall, body_length}
 use Rattle.api.specs.Tests.{Fails, IsFound}
 use Rattle.ports.specs.Stops.{Answers}
-use Rattle.api.specs.Answers.{IsRefused, Gave, all_of, AskOf}
+use Rattle.ports.specs.Taken.{Gave}
+use Rattle.api.specs.Answers.{IsRefused, all_of, AskOf}
 use Rattle.api.specs.Fields.{AreWithin, pairs}
 
 -- the request of a head, with these bytes behind it

@@ -1,9 +1,10 @@
 -- What the stages of the reading of a request know, one after another.
-use Rattle.std.specs.Prelude.{◌≡◌, ℕ, ◌≤◌, ◌<◌, ◌⊎◌, List, [], ◌∷◌, ◌++◌, length, take, Option, Some, None}
+use Rattle.std.specs.Prelude.{◌≡◌, ℕ, ◌≤◌, ◌<◌, ◌⊎◌, List, [], ◌∷◌, ◌++◌, length, take, Option, None}
 use Rattle.std.specs.Prelude.{Result, Ok, Err}
 use Rattle.ports.specs.declared.stop.Stop.{Stop}
 use Rattle.ports.specs.declared.stop.Stop.TheVariants as stop
 use Rattle.ports.specs.Stops.{Refuses}
+use Rattle.ports.specs.Taken.{Gave, IsSpent}
 use Rattle.httparse.specs.Grammar.{HasNoRequest, MayBecomeRequest, NeverHasRequest}
 use Rattle.httparse.specs.Spans.{IsRequestWithin, IsRequestOf}
 use Rattle.httparse.specs.declared.spans.HeaderSpan.{HeaderSpan}
@@ -16,7 +17,7 @@ use Rattle.api.specs.declared.bad.BadWhy.{BadWhy}
 use Rattle.api.specs.declared.bad.BadWhy.TheVariants as why
 use Rattle.api.specs.Statuses.{status_of}
 use Rattle.api.specs.Requests.{head_limit}
-use Rattle.api.specs.Answers.{Gave, all_of, AskOf}
+use Rattle.api.specs.Answers.{all_of, AskOf}
 
 -- a whole head stands at the front of the bytes, and its parts are there
 pub record IsHead (bytes : List ℕ) (spans : List HeaderSpan) (parts : RequestSpans) : Type 0 where
@@ -33,11 +34,6 @@ abbrev pub IsLook : List ℕ → List HeaderSpan → Look → Type 0
 IsLook bytes spans (Whole parts) = IsHead bytes spans parts
 IsLook bytes spans Open = IsOpen bytes
 IsLook bytes spans Never = NeverHasRequest bytes
-
--- nothing is left
-abbrev pub IsSpent : Option (List ℕ) → Type 0
-IsSpent None = Unit {0}
-IsSpent (Some left) = left ≡ []
 
 -- a piece was taken, and put behind the bytes that were there
 pub record Took (old new : Option (List ℕ)) (before bytes : List ℕ) (most count : ℕ) : Type 0 where

@@ -1,5 +1,4 @@
 //! How the reading of a request ends.
-
 use crate::bad::HttpBad;
 use ports::Listed;
 

@@ -51,8 +51,8 @@ fn a_project_is_made(rt: HostRuntime) -> Result<(), Fail> {
 
 #[test]
 fn an_edit_is_asked_for(rt: HostRuntime) -> Result<(), Fail> {
-    let input =
-        b"POST /projects/sq/edits HTTP/1.1\r\nContent-Length: 36\r\n\r\n{\"rev\":0,\"command\":\"draw M 0,0 1,1\"}";
+    let input = b"POST /projects/sq/edits HTTP/1.1\r\nContent-Length: 36\r\n\r\n\
+            {\"rev\":0,\"command\":\"draw M 0,0 1,1\"}";
     assert!(rt; asks(rt.alloc(), input, b"draw sq@0 M 0,0 1,1")?);
     Ok(())
 }
@@ -172,7 +172,9 @@ fn heads_of_answers(rt: HostRuntime) -> Result<(), Fail> {
     assert!(rt; write_head(&mut sink, 409, false, 16, None).is_ok());
     assert!(rt;
         sink.bytes()
-            == b"HTTP/1.1 409 Conflict\r\nContent-Type: text/plain\r\nContent-Length: 16\r\nConnection: close\r\n\r\n".as_slice()
+            == b"HTTP/1.1 409 Conflict\r\nContent-Type: text/plain\r\nContent-Length: 16\r\n\
+                Connection: close\r\n\r\n"
+                .as_slice()
     );
     Ok(())
 }
@@ -184,7 +186,9 @@ fn a_head_that_tells_methods(rt: HostRuntime) -> Result<(), Fail> {
     assert!(rt; write_head(&mut sink, 405, false, 11, Some("PUT, GET")).is_ok());
     assert!(rt;
         sink.bytes()
-            == b"HTTP/1.1 405 Method Not Allowed\r\nContent-Type: text/plain\r\nContent-Length: 11\r\nAllow: PUT, GET\r\nConnection: close\r\n\r\n".as_slice()
+            == b"HTTP/1.1 405 Method Not Allowed\r\nContent-Type: text/plain\r\nContent-Length: 11\r\n\
+                Allow: PUT, GET\r\nConnection: close\r\n\r\n"
+                .as_slice()
     );
     assert!(rt; bad_text(BadWhy::Method) == "bad method\n");
     Ok(())

@@ -1,6 +1,2 @@
 -- How often a project was changed.
-use Rattle.std.specs.Prelude.{ℕ, ◌^◌}
-
--- the greatest rev
-abbrev pub last_rev : ℕ
-last_rev = 10 ^ 12
+pub use Rattle.vocabulary.specs.Revs.{last_rev}

@@ -6,9 +6,6 @@ use ports::Listed;
 use sheet::Sheet;
 use vocabulary::Name;
 
-/// The greatest rev that a project can have. A rev says how often a project was changed.
-pub const LAST_REV: u64 = 1_000_000_000_000;
-
 /// A change of a project.
 #[derive(Drop)]
 pub enum Change {
@@ -58,7 +55,7 @@ pub enum Command {
         name: Name,
     },
     /// A change, which is refused where a rev is given and the project has another. A rev that is
-    /// given is at most [`LAST_REV`].
+    /// given is at most [`LAST_REV`](vocabulary::LAST_REV).
     Change {
         name: Name,
         rev: Option<u64>,

@@ -6,5 +6,6 @@ mod command;
 mod reply;
 
 pub use cause::Cause;
-pub use command::{Change, Command, LAST_REV};
+pub use command::{Change, Command};
 pub use reply::Reply;
+pub use vocabulary::LAST_REV;

@@ -1,5 +1,4 @@
 //! The first turns of two seeds, worked by hand from the numbers.
-
 use crate::Generator;
 use dialogue::{Change, Command};
 use edits::Edit;
@@ -57,7 +56,7 @@ fn seed_one_begins_with_an_undo(rt: HostRuntime) -> Result<(), Fail> {
 }
 
 #[test]
-fn seed_seven(rt: HostRuntime) -> Result<(), Fail> {
+fn seed_seven_draws_these_commands(rt: HostRuntime) -> Result<(), Fail> {
     let name = Name::new(b"g")?;
     let mut generator = Generator::new(7);
     assert!(rt; matches!(turn(&rt, &mut generator, &name), Change::Undo));

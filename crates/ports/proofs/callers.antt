@@ -1,3 +1,4 @@
 -- What the crates above may cite.
 pub mod Streams
+pub mod Taken
 pub mod Doors

@@ -1,4 +1,5 @@
 pub mod Streams
+pub mod Taken
 pub mod Memory
 pub mod Doors
 pub mod Stops

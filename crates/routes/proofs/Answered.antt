@@ -1,7 +1,6 @@
 -- Answers that take memory, told in other words, and the parts of a text.
-use Rattle.std.proofs.Common.{◌≡◌, ◌≢◌, ◌∙◌, ◌-◌, ◌≤◌, ◌==◌, Bool, true, false, ℕ, refl, sym, ap, List, [], ◌∷◌, Option, Some, None, unwrap_or, arith, length, take, drop}
+use Rattle.std.proofs.Common.{◌≡◌, ◌∙◌, ◌-◌, ◌≤◌, ℕ, refl, sym, ap, List, [], ◌∷◌, Option, Some, None, unwrap_or, arith, length, take, drop}
 use Rattle.std.specs.Prelude.{IfOk, MatchOption, Result, Ok, Err, slice_index_or, codes}
-use Rattle.std.proofs.lemmas.Bool.{eqb-true}
 use Rattle.std.proofs.lemmas.List.{take_all}
 use Rattle.serde_json.specs.Data.{Data, unsigned, number, string}
 use Rattle.serde_json.specs.Find.{get}
@@ -46,12 +45,3 @@ one_says value c d r s f g = (same_command c d (sym f.commands ∙ g.commands), 
 pub none_of : {A : Type 0} (items : A → List ℕ) (P : List ℕ → Type 0) (o : Option A) → o ≡ None → MatchOption o ((t : List ℕ) → ¬ P t) (λ a. P (items a)) → (t : List ℕ) → ¬ P t
 none_of items P None e h = h
 none_of items P (Some a) e h = absurd (let f = e in cc)
-
--- whether bytes are left
-pub some_left : (rest : List ℕ) (b : Bool) → b ≡ (length rest == 0) → b ≡ false → rest ≢ []
-some_left [] b e f = λ h. cc
-some_left (x ∷ rest) b e f = λ h. cc
-
-pub none_left : (rest : List ℕ) (b : Bool) → b ≡ (length rest == 0) → b ≡ true → rest ≡ []
-none_left [] b e f = refl
-none_left (x ∷ rest) b e f = absurd (let l : length (x ∷ rest) ≡ 0 = eqb-true (length (x ∷ rest)) 0 (sym e ∙ f) in omega (arith, l))

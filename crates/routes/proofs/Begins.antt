@@ -5,7 +5,7 @@ use Rattle.vocabulary.specs.declared.verb.Verb.TheVariants as verb
 use Rattle.vocabulary.specs.Verbs.{verb_text}
 use Rattle.routes.specs.Asking.{Asks, AsksProject}
 use Rattle.routes.specs.FirstWords.{BeginsWithVerb}
-use Rattle.routes.specs.Edits.{at_rev}
+use Rattle.vocabulary.specs.Revs.{rev_text}
 use Rattle.routes.specs.declared.method.Method.{Method}
 use Rattle.routes.specs.declared.method.Method.TheVariants as method
 use Rattle.routes.specs.declared.route.Route.{Route}
@@ -32,5 +32,5 @@ begins (route.Fold name) m query body text a = with_blank verb.Fold name.now tex
 begins (route.Vertex name) m query body text a = with_blank verb.Vertex (name.now ++ (32 ∷ a.point)) text a.written
 begins (route.Edits name) m query body text a =
     let e = a.edit.edit in
-    with_blank e.verb ((name.now ++ at_rev a.edit.rev) ++ e.behind) text e.written
+    with_blank e.verb ((name.now ++ rev_text a.edit.rev) ++ e.behind) text e.written
 begins (route.Sheet name width height) m query body text a = with_blank verb.New (name.now ++ (32 ∷ (width.now ++ (32 ∷ height.now)))) text a

@@ -4,25 +4,21 @@ use Rattle.std.specs.Borrow.{Bor}
 use Rattle.std.specs.Prelude.{Contains}
 use Rattle.std.proofs.lemmas.Bool.{eqb-true}
 use Rattle.std.proofs.lemmas.Bool.Decides.{nat_tests}
-use Rattle.std.proofs.lemmas.List.Elements.{Contains-append_right}
 use Rattle.std.proofs.lemmas.Str.Pattern.{IsSplitOnceResult, split_parts}
 use Rattle.matchit.specs.Seek.{has_slash}
 use Rattle.chains.proofs.callers.Elements.{head_has, tail_has, has_cases, has_none}
-use Rattle.lines.proofs.callers.Lines.{one_cut}
+use Rattle.lines.proofs.callers.Lines.{has_behind, one_cut}
 use Rattle.routes.specs.Cuts.{IsSplit}
 use Rattle.routes.specs.Routes.{IsPart}
-
-has_mark : (c : ℕ) (xs zs : List ℕ) → Contains (xs ++ c ∷ zs) c
-has_mark c xs zs = Contains-append_right xs (c ∷ zs) c (head_has c c zs refl)
 
 pub one_split : (c : ℕ) (text p q r s : List ℕ) → IsSplit c text p q → IsSplit c text r s → (p ≡ r) × (q ≡ s)
 one_split c text p q r s f g = elim f.whole [
   | inl a ↦ elim g.whole [
     | inl b ↦ one_cut c p r q s f.first g.first (sym a ∙ b)
-    | inr b ↦ absurd (g.first (subst (λ xs. Contains xs c) (sym a ∙ b.0) (has_mark c p q)))
+    | inr b ↦ absurd (g.first (subst (λ xs. Contains xs c) (sym a ∙ b.0) (has_behind c p q)))
   ]
   | inr a ↦ elim g.whole [
-    | inl b ↦ absurd (f.first (subst (λ xs. Contains xs c) (sym b ∙ a.0) (has_mark c r s)))
+    | inl b ↦ absurd (f.first (subst (λ xs. Contains xs c) (sym b ∙ a.0) (has_behind c r s)))
     | inr b ↦ (sym a.0 ∙ b.0, a.1 ∙ sym b.1)
   ]
 ]

@@ -1,5 +1,6 @@
 -- A path that the table matches has the form of its page, and a path that has the form of a page is matched.
 use Rattle.std.proofs.Common.{◌≡◌, ◌∙◌, ◌++◌, ℕ, refl, sym, ap, subst, codes, List, [], ◌∷◌, Option, Some, None, get_or, map, arith, inl, inr, ◌⊎◌, unwrap_or, append-nil}
+use Rattle.std.proofs.lemmas.Option.{same_Some}
 use Rattle.std.proofs.Math.ListN.{get_or-map}
 use Rattle.matchit.specs.Rows.{Rows, prepend}
 use Rattle.matchit.specs.Level.{IsText}
@@ -57,9 +58,6 @@ pages = Cp ∷ Edits ∷ Faults ∷ Fold ∷ Pattern ∷ Sheet ∷ Vertex ∷ Pr
 
 abbrev page_at : ℕ → Page
 page_at k = get_or pages k Projects
-
-some_is : {A : Type 0} {a b : A} → Some a ≡ Some b → a ≡ b
-some_is {A} {a} h = ap (λ o. unwrap_or o a) h
 
 -- one of the words after the name
 word_form : (path name tail w : Text) → IsPart name → path ≡ codes "/projects/" ++ (name ++ (47 ∷ tail)) → tail ≡ w → IsNamed (47 ∷ w) path
@@ -119,13 +117,13 @@ top_form path k text h =
     go a.0 a.1 (text_after (codes "/projects") a.0 (subst IsText a.1 text)) a.2
   where
     go : (rest : Text) → path ≡ codes "/projects" ++ rest → IsText rest → first end_rows rest ≡ Some k → HasForm (page_at k) path
-    go [] is text g = subst (λ i. HasForm (page_at i) path) (some_is g) is
+    go [] is text g = subst (λ i. HasForm (page_at i) path) (same_Some _ _ g) is
     go (b ∷ p) is text g =
         let a = after_prefix (codes "/") name_rows (b ∷ p) k (omega arith, tt) (sym (ended (prepend (codes "/") name_rows) 8 b p) ∙ g) in
         let text1 : IsText a.0 = text_after (codes "/") a.0 (subst IsText a.1 text) in
         let is_all : path ≡ codes "/projects/" ++ a.0 = is ∙ ap (λ t. codes "/projects" ++ t) a.1 in
         elim (taken word_rows (Some 7) a.0 k (omega arith) text1 a.2) [
-          | inl x ↦ subst (λ i. HasForm (page_at i) path) (some_is x.1) (record { name = a.0; part = x.0; whole = is_all ∙ ap (λ t. codes "/projects/" ++ t) (sym (append-nil a.0)) })
+          | inl x ↦ subst (λ i. HasForm (page_at i) path) (same_Some _ _ x.1) (record { name = a.0; part = x.0; whole = is_all ∙ ap (λ t. codes "/projects/" ++ t) (sym (append-nil a.0)) })
           | inr x ↦ words_form path x.0 x.1 k (text_after x.0 (47 ∷ x.1) (subst IsText x.3 text1)).1 x.2 (is_all ∙ ap (λ t. codes "/projects/" ++ t) x.3) x.4
         ]
 

@@ -1,5 +1,6 @@
 -- What a path has to look like for rows to match it. The keys are numbers, as in the lemmas of `matchit`.
-use Rattle.std.proofs.Common.{◌≡◌, ◌≢◌, ◌∙◌, ◌==◌, ◌&&◌, ◌++◌, ◌-◌, ◌+◌, ◌<◌, ℕ, Bool, true, false, cond, refl, sym, ap, subst, List, [], ◌∷◌, Option, Some, None, suc, length, take, drop, ltb, nat_eq, unwrap_or, arith, inl, inr, ◌⊎◌, append-nil, length-append, get_or}
+use Rattle.std.proofs.Common.{◌≡◌, ◌≢◌, ◌∙◌, ◌==◌, ◌&&◌, ◌++◌, ◌-◌, ◌+◌, ◌<◌, ℕ, Bool, true, false, cond, refl, sym, ap, subst, List, [], ◌∷◌, Option, Some, None, suc, length, take, drop, ltb, nat_eq, arith, inl, inr, ◌⊎◌, append-nil, length-append, get_or}
+use Rattle.std.proofs.lemmas.Option.{same_Some}
 use Rattle.std.specs.List.{starts_with, ends_with}
 use Rattle.std.specs.Cmp.Lexicographic.{pointwise, bytes_decides}
 use Rattle.std.proofs.lemmas.Bool.{eqb-true, lt-ltb}
@@ -16,9 +17,6 @@ use Rattle.routes.proofs.Cuts.{part_is}
 
 abbrev Text : Type 0
 Text = List ℕ
-
-some_is : {A : Type 0} {a b : A} → Some a ≡ Some b → a ≡ b
-some_is {A} {a} h = ap (λ o. unwrap_or o a) h
 
 kept : {A : Type 0} (b : Bool) (x : Option A) (y : A) → cond b x None ≡ Some y → (b ≡ true) × (x ≡ Some y)
 kept true x y h = (refl, h)
@@ -58,7 +56,7 @@ ended rest k b p = simp (step-append, append-nil) refl
 
 pub leaf_is : (k : ℕ) (path : Text) (r : ℕ) → seek 0 (leaf k) path ≡ Some r → (path ≡ []) × (k ≡ r)
 unfolding seek
-leaf_is k [] r h = (refl, some_is h)
+leaf_is k [] r h = (refl, same_Some _ _ h)
 leaf_is k (b ∷ p) r h = absurd (let e = sym (ended [] k b p ∙ seek-empty 0 (b ∷ p)) ∙ h in cc)
 
 pub word_is : (w : Text) (k : ℕ) (path : Text) (r : ℕ) → IsText w → seek 0 (prepend w (leaf k)) path ≡ Some r → (path ≡ w) × (k ≡ r)
@@ -184,7 +182,7 @@ pub taken_last : (k : ℕ) (path : Text) (r : ℕ) → IsText path → seek 0 (p
 unfolding seek
 taken_last k [] r text h = absurd (let e = sym (own-prepend 256 [] (leaf k)) ∙ h in cc)
 taken_last k (b ∷ p) r text h = elim (cut_path (b ∷ p)) [
-  | inl c ↦ (part_is b p c, some_is (sym (last_part k b p text.0 c) ∙ h))
+  | inl c ↦ (part_is b p c, same_Some _ _ (sym (last_part k b p text.0 c) ∙ h))
   | inr c ↦
       let has : has_slash (b ∷ p) ≡ true = ap has_slash c.2 ∙ has_at c.0 c.1 in
       let there : after_param (rows_of [] ++ ends (Some k)) (b ∷ p) ≡ Some r = sym (param_first (leaf k) b p text.0) ∙ h in

@@ -1,18 +1,19 @@
 -- The body of an edit: a JSON object with a command, and perhaps the rev that it is for.
-use Rattle.std.specs.Prelude.{◌≡◌, ℕ, ◌≤◌, ◌⊎◌, ◌^◌, List, [], ◌∷◌, ◌++◌, Option, Some, None}
-use Rattle.std.specs.Prelude.{codes, decimal, true, IsUtf8}
+use Rattle.std.specs.Prelude.{◌≡◌, ℕ, ◌≤◌, ◌⊎◌, List, [], ◌∷◌, ◌++◌, Option, Some, None}
+use Rattle.std.specs.Prelude.{codes, true, IsUtf8}
 use Rattle.serde_json.specs.Data.{Data, unsigned, number, string}
 use Rattle.serde_json.specs.Read.{read}
 use Rattle.serde_json.specs.Find.{get}
 use Rattle.lines.specs.Words.{IsBlank}
+use Rattle.vocabulary.specs.Revs.{last_rev, rev_text}
 use Rattle.vocabulary.specs.Verbs.{verb_text, is_change}
 use Rattle.vocabulary.specs.declared.verb.Verb.{Verb}
 
--- what is kept under the key `rev` gives this rev: nothing stands there, or a number up to 10^12 that
--- is written without a sign, a point or an exponent
+-- what is kept under the key `rev` gives this rev: nothing stands there, or a number up to the greatest
+-- rev that is written without a sign, a point or an exponent
 abbrev pub GivesRev : Option Data → Option ℕ → Type 0
 GivesRev kept None = kept ≡ None
-GivesRev kept (Some rev) = (kept ≡ Some (number (unsigned rev))) × (rev ≤ 10 ^ 12)
+GivesRev kept (Some rev) = (kept ≡ Some (number (unsigned rev))) × (rev ≤ last_rev)
 
 -- the object has the string `command`, and what it has under `rev` gives this rev
 pub record Says (value : Data) (command : List ℕ) (rev : Option ℕ) : Type 0 where
@@ -34,14 +35,9 @@ pub record IsChange (command : List ℕ) (verb : Verb) (behind : List ℕ) : Typ
   pub ends : EndsWord behind
   pub changes : is_change verb ≡ true
 
--- `@` (64) and the rev, where one is given
-abbrev pub at_rev : Option ℕ → List ℕ
-at_rev None = []
-at_rev (Some rev) = 64 ∷ decimal rev
-
 -- the command text: the word, the name with the rev behind it, and what stands behind the word
 abbrev pub edit_text : List ℕ → List ℕ → Option ℕ → List ℕ → List ℕ
-edit_text word name rev behind = word ++ (32 ∷ ((name ++ at_rev rev) ++ behind))
+edit_text word name rev behind = word ++ (32 ∷ ((name ++ rev_text rev) ++ behind))
 
 -- the command text of an edit of the project, as a command and a rev ask for it
 pub record IsEditOf (name command : List ℕ) (rev : Option ℕ) (text : List ℕ) : Type 0 where

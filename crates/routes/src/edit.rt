@@ -2,16 +2,15 @@
 ghost use Rattle.std.specs.Prelude.{◌≡◌, codes, IfOk, MatchOption, Option, ℕ, List, OnOk, ◌++◌};
 ghost use Rattle.serde_json.specs.View.{view};
 ghost use Rattle.serde_json.specs.Find.{get};
-ghost use Rattle.routes.specs.Edits.{GivesRev, IsEdit, IsEditIn, IsEditOf, Says, at_rev, edit_text};
+ghost use Rattle.routes.specs.Edits.{GivesRev, IsEdit, IsEditIn, IsEditOf, Says, edit_text};
+ghost use Rattle.vocabulary.specs.Revs.{rev_text};
 
 use crate::change::change_in;
 use itoa::Buffer;
 use ports::NoMemory;
 use serde_json::Value;
 use std::alloc::{AllocError, Global};
-
-/// The highest rev that a command can name.
-const LAST_REV: u64 = 1_000_000_000_000;
+use vocabulary::LAST_REV;
 
 /// The command text of an edit of the project, by the body of its request; `None` exactly where the
 /// body is not of its form: a JSON object (RFC 8259) with the string `command`, which begins with the
@@ -116,7 +115,7 @@ fn written(
 
 /// Appends `@` and the rev, where one is given.
 fn put_rev(text: &mut Vec<u8>, rev: Option<u64>) -> Result<(), AllocError>
-    ensures { OnOk result (text.new.items ≡ text.old.items ++ at_rev rev) }
+    ensures { OnOk result (text.new.items ≡ text.old.items ++ rev_text rev) }
 {
     if let Some(rev) = rev {
         let mut buffer = Buffer::new();

@@ -1,5 +1,4 @@
 //! Requests, with what they ask for written by hand.
-
 use crate::{Method, Route, Routes, command_text, cut_target};
 use ports::NoMemory;
 use std::alloc::Global;
@@ -38,14 +37,14 @@ fn asks_edit(alloc: Global, body: &[u8], text: Option<&[u8]>) -> Result<bool, No
 }
 
 #[test]
-fn targets(rt: HostRuntime) -> Result<(), Fail> {
+fn a_target_is_cut_at_its_first_mark(rt: HostRuntime) -> Result<(), Fail> {
     assert!(rt; cut_target("/projects/sq/vertex?at=0,0?") == ("/projects/sq/vertex", "at=0,0?"));
     assert!(rt; cut_target("/projects") == ("/projects", ""));
     Ok(())
 }
 
 #[test]
-fn paths(rt: HostRuntime) -> Result<(), Fail> {
+fn paths_are_found(rt: HostRuntime) -> Result<(), Fail> {
     let alloc = rt.alloc();
     assert!(rt; is_route(alloc, "/projects", Some(Route::Projects))?);
     assert!(rt; is_route(alloc, "/projects/a-b/faults", Some(Route::Faults("a-b")))?);
@@ -60,7 +59,7 @@ fn paths(rt: HostRuntime) -> Result<(), Fail> {
 }
 
 #[test]
-fn no_paths(rt: HostRuntime) -> Result<(), Fail> {
+fn other_paths_are_not_found(rt: HostRuntime) -> Result<(), Fail> {
     let alloc = rt.alloc();
     assert!(rt; is_route(alloc, "/projects/", None)?);
     assert!(rt; is_route(alloc, "/projects/sq/", None)?);
@@ -69,7 +68,7 @@ fn no_paths(rt: HostRuntime) -> Result<(), Fail> {
 }
 
 #[test]
-fn methods(rt: HostRuntime) -> Result<(), Fail> {
+fn a_page_has_its_methods(rt: HostRuntime) -> Result<(), Fail> {
     let project = Route::Project("Sq");
     assert!(rt; project.method(b"PUT") == Some(Method::Put));
     assert!(rt; project.method(b"DELETE").is_none());
@@ -80,7 +79,7 @@ fn methods(rt: HostRuntime) -> Result<(), Fail> {
 }
 
 #[test]
-fn projects(rt: HostRuntime) -> Result<(), Fail> {
+fn projects_are_listed_and_made(rt: HostRuntime) -> Result<(), Fail> {
     let alloc = rt.alloc();
     let project = Route::Project("sq");
     assert!(rt;
@@ -99,7 +98,7 @@ fn projects(rt: HostRuntime) -> Result<(), Fail> {
 }
 
 #[test]
-fn pages(rt: HostRuntime) -> Result<(), Fail> {
+fn pages_ask_for_their_texts(rt: HostRuntime) -> Result<(), Fail> {
     let alloc = rt.alloc();
     let sheet = Route::Sheet("sq", "2", "01");
     assert!(rt;
@@ -117,7 +116,7 @@ fn pages(rt: HostRuntime) -> Result<(), Fail> {
 }
 
 #[test]
-fn vertices(rt: HostRuntime) -> Result<(), Fail> {
+fn a_query_names_a_vertex(rt: HostRuntime) -> Result<(), Fail> {
     let alloc = rt.alloc();
     assert!(rt; asks_vertex(alloc, b"at=1,-1+1r", Some(b"vertex sq 1,-1+1r"))?);
     assert!(rt; asks_vertex(alloc, b"at=1%2c-1%2B1r", Some(b"vertex sq 1,-1+1r"))?);
@@ -126,7 +125,7 @@ fn vertices(rt: HostRuntime) -> Result<(), Fail> {
 }
 
 #[test]
-fn no_vertices(rt: HostRuntime) -> Result<(), Fail> {
+fn other_queries_name_no_vertex(rt: HostRuntime) -> Result<(), Fail> {
     let alloc = rt.alloc();
     assert!(rt; asks_vertex(alloc, b"", None)?);
     assert!(rt; asks_vertex(alloc, b"x=1&at=0,0", None)?);
@@ -136,7 +135,7 @@ fn no_vertices(rt: HostRuntime) -> Result<(), Fail> {
 }
 
 #[test]
-fn edits(rt: HostRuntime) -> Result<(), Fail> {
+fn a_body_asks_for_an_edit(rt: HostRuntime) -> Result<(), Fail> {
     let alloc = rt.alloc();
     let body = b"{\"rev\":0,\"command\":\"draw M 0,0 1,1\"}";
     assert!(rt; asks_edit(alloc, body, Some(b"draw sq@0 M 0,0 1,1"))?);
@@ -148,7 +147,7 @@ fn edits(rt: HostRuntime) -> Result<(), Fail> {
 }
 
 #[test]
-fn no_edits(rt: HostRuntime) -> Result<(), Fail> {
+fn other_bodies_ask_for_no_edit(rt: HostRuntime) -> Result<(), Fail> {
     let alloc = rt.alloc();
     assert!(rt; asks_edit(alloc, b"[\"command\",\"flip\"]", None)?);
     assert!(rt; asks_edit(alloc, b"{\"command\":\" flip\"}", None)?);
@@ -158,7 +157,7 @@ fn no_edits(rt: HostRuntime) -> Result<(), Fail> {
 }
 
 #[test]
-fn no_revs(rt: HostRuntime) -> Result<(), Fail> {
+fn other_revs_are_refused(rt: HostRuntime) -> Result<(), Fail> {
     let alloc = rt.alloc();
     assert!(rt; asks_edit(alloc, b"{\"command\":\"flip\",\"rev\":null}", None)?);
     assert!(rt; asks_edit(alloc, b"{\"command\":\"flip\",\"rev\":1.0}", None)?);

@@ -5,11 +5,9 @@ use Rattle.std.specs.Result.{OkIff}
 use Rattle.std.specs.Str.Parse.{AllDigits, digits_value, ParsesUnsigned}
 use Rattle.std.proofs.lemmas.Fmt.{decimal_is_IsNumeral, decimal_nonempty, first_decimal, decimal_digit, decimal-digits_value, IsAscii-decimal, parse-decimal}
 use Rattle.std.proofs.lemmas.Str.{IsUtf8-from_ascii}
-use Rattle.std.proofs.lemmas.Str.Parse.{IsNumeralModel, numerals_by_value, tells_digits, digit_at, parse_plain}
+use Rattle.std.proofs.lemmas.Str.Parse.{digit_at, parse_plain}
 use Rattle.vocabulary.specs.Numbers.{IsPlain}
-
-own : IsNumeralModel (AllDigits 10) (digits_value 10)
-own = numerals_by_value (AllDigits 10) tells_digits
+use Rattle.vocabulary.proofs.callers.Digits.{by_value}
 
 -- the text of a number is plain
 plain_zero : (n : ℕ) → n < 2 ^ 64 → get_or (decimal n) 0 0 ≡ 48 → length (decimal n) ≡ 1
@@ -39,11 +37,11 @@ parsed bytes n r h p e = parse-decimal 64 n bytes r h h (sym e) p
 spelled : (E : Type 0) (bytes : List ℕ) (v : ℕ) → IsPlain bytes
     → OkIff (let r : Result ℕ E = Ok v in r) (AllDigits 10 bytes × (0 < length bytes) × (digits_value 10 bytes < 2 ^ 64)) (digits_value 10 bytes)
     → decimal v ≡ bytes
-spelled E bytes v p h = ap decimal h.1 ∙ decimal-digits_value own bytes h.0.0 h.0.1 p.zeros h.0.2
+spelled E bytes v p h = ap decimal h.1 ∙ decimal-digits_value by_value bytes h.0.0 h.0.1 p.zeros h.0.2
 
 -- a number that `parse` gives for plain bytes has them as its text
 pub spells : {E : Type 0} (bytes : List ℕ) (v : ℕ) (r : Result ℕ E) → IsPlain bytes → r ≡ Ok v
     → ParsesUnsigned 64 10 bytes r → decimal v ≡ bytes
 spells {E = E} bytes v r p e h =
     spelled E bytes v p
-    (subst (λ (x : Result ℕ E). OkIff x (AllDigits 10 bytes × (0 < length bytes) × (digits_value 10 bytes < 2 ^ 64)) (digits_value 10 bytes)) e (parse_plain own 64 bytes r h p.sign))
+    (subst (λ (x : Result ℕ E). OkIff x (AllDigits 10 bytes × (0 < length bytes) × (digits_value 10 bytes < 2 ^ 64)) (digits_value 10 bytes)) e (parse_plain by_value 64 bytes r h p.sign))

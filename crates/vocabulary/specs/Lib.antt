@@ -1,3 +1,4 @@
 pub mod Names
 pub mod Verbs
 pub mod Numbers
+pub mod Revs

@@ -1,5 +1,4 @@
 //! Names, worked by hand.
-
 use crate::{Name, NotName};
 use std::test::Fail;
 

@@ -210,17 +210,6 @@ one_more arguments words behind g (given, r) f k l = (
   },
 )
 
-pub no_words : (arguments : List Argument) (words : List (List ℕ)) → words ≡ [] → GiveTo arguments words
-no_words arguments words e = (
-  [],
-  record {
-    written = e;
-    values = All-nil (λ g. IsValue g.value);
-    known = All-nil (λ g. Contains arguments g.argument);
-    once = λ i j d lt within. absurd (omega arith);
-  },
-)
-
 -- the values behind the first
 pub record AreBehind (arguments : List Argument) (behind : List (List ℕ)) (g : Given) : Type 0 where
   pub give : GiveTo arguments behind

@@ -2,6 +2,7 @@
 use Rattle.std.proofs.Common.{◌≡◌, ℕ, ◌<◌, ◌^◌, List, Option, refl, sym, ap, subst, ◌∙◌, arith, lit<, inl}
 use Rattle.std.proofs.lemmas.Fmt.{decimal_injective}
 use Rattle.sheet.specs.Sheet.{ExactSheet}
+use Rattle.sheet.proofs.callers.Sheets.{same_sheet}
 use Rattle.lattice.specs.Lattice.{Measures}
 use Rattle.words.specs.Grammar.{Given, Gives, IsTextOf, IsNumberOf}
 use Rattle.words.specs.Tasks.{Task}
@@ -32,9 +33,6 @@ same_text arguments further given others a v w g h x y =
 
 same_lattice : (l m : Measures) → l.d ≡ m.d → l.k ≡ m.k → l.tol ≡ m.tol → l ≡ m
 same_lattice l m p q r = λ i. record { d = p i; k = q i; tol = r i }
-
-same_sheet : (s t : ExactSheet) → s.w ≡ t.w → s.h ≡ t.h → s ≡ t
-same_sheet s t p q = λ i. record { w = p i; h = q i }
 
 one_check : (further : List (List ℕ)) (l m : Measures) (s t : ExactSheet) → AreForCheck further l s → AreForCheck further m t
     → Task.Check l s ≡ Task.Check m t

@@ -1,5 +1,6 @@
 -- Words as names of options and as values.
-use Rattle.std.proofs.Common.{◌≡◌, ◌==◌, ◌<◌, ◌+◌, ℕ, suc, Bool, true, false, cond, length, get_or, List, ◌∷◌, ◌++◌, Option, Some, None, refl, sym, ap, subst, ◌∙◌, arith, codes, unwrap_or}
+use Rattle.std.proofs.Common.{◌≡◌, ◌==◌, ◌<◌, ◌+◌, ℕ, suc, Bool, true, false, cond, length, get_or, List, ◌∷◌, ◌++◌, Option, Some, None, refl, sym, ap, subst, ◌∙◌, arith, codes}
+use Rattle.std.proofs.lemmas.Option.{same_Some}
 use Rattle.std.specs.Prelude.{nat_lt}
 use Rattle.std.specs.Str.{bytes_eq}
 use Rattle.std.specs.List.{before_first, after_first, position_or_len}
@@ -10,9 +11,6 @@ use Rattle.words.specs.Grammar.{option_word, IsValue}
 use Rattle.words.specs.FirstGiven.{cut_at_equals}
 use Rattle.words.specs.declared.argument.Argument.{Argument}
 use Rattle.words.specs.declared.argument.Argument.TheVariants as argument
-
-some_is : {A : Type 0} {a b : A} → Some a ≡ Some b → a ≡ b
-some_is {A} {a} h = ap (λ o. unwrap_or o a) h
 
 -- an option by its name
 by_name : List ℕ → Argument
@@ -46,13 +44,13 @@ same_argument a b e = sym (back a) ∙ ap by_word e ∙ back b
 -- the name of an option is no value, and nothing that begins with it is
 pub no_value : (a : Argument) (name more : List ℕ) → option_word a ≡ Some name → ¬ IsValue (name ++ more)
 no_value argument.Port name more e v = absurd cc
-no_value argument.D name more e v = subst (λ n. IsValue (n ++ more)) (sym (some_is e)) v refl
-no_value argument.K name more e v = subst (λ n. IsValue (n ++ more)) (sym (some_is e)) v refl
-no_value argument.Tol name more e v = subst (λ n. IsValue (n ++ more)) (sym (some_is e)) v refl
-no_value argument.W name more e v = subst (λ n. IsValue (n ++ more)) (sym (some_is e)) v refl
-no_value argument.H name more e v = subst (λ n. IsValue (n ++ more)) (sym (some_is e)) v refl
-no_value argument.Connections name more e v = subst (λ n. IsValue (n ++ more)) (sym (some_is e)) v refl
-no_value argument.Keep name more e v = subst (λ n. IsValue (n ++ more)) (sym (some_is e)) v refl
+no_value argument.D name more e v = subst (λ n. IsValue (n ++ more)) (sym (same_Some _ _ e)) v refl
+no_value argument.K name more e v = subst (λ n. IsValue (n ++ more)) (sym (same_Some _ _ e)) v refl
+no_value argument.Tol name more e v = subst (λ n. IsValue (n ++ more)) (sym (same_Some _ _ e)) v refl
+no_value argument.W name more e v = subst (λ n. IsValue (n ++ more)) (sym (same_Some _ _ e)) v refl
+no_value argument.H name more e v = subst (λ n. IsValue (n ++ more)) (sym (same_Some _ _ e)) v refl
+no_value argument.Connections name more e v = subst (λ n. IsValue (n ++ more)) (sym (same_Some _ _ e)) v refl
+no_value argument.Keep name more e v = subst (λ n. IsValue (n ++ more)) (sym (same_Some _ _ e)) v refl
 
 -- how the name of an option is cut, alone and with a value
 pub record IsCut (name : List ℕ) : Type 0 where
@@ -70,13 +68,13 @@ joined_at name v at before after =
 
 pub name_cut : (a : Argument) (name : List ℕ) → option_word a ≡ Some name → IsCut name
 name_cut argument.Port name e = absurd cc
-name_cut argument.D name e = subst IsCut (some_is e) (record { alone = refl; joined = λ v. joined_at (codes "--d") v refl refl refl })
-name_cut argument.K name e = subst IsCut (some_is e) (record { alone = refl; joined = λ v. joined_at (codes "--k") v refl refl refl })
-name_cut argument.Tol name e = subst IsCut (some_is e) (record { alone = refl; joined = λ v. joined_at (codes "--tol") v refl refl refl })
-name_cut argument.W name e = subst IsCut (some_is e) (record { alone = refl; joined = λ v. joined_at (codes "--w") v refl refl refl })
-name_cut argument.H name e = subst IsCut (some_is e) (record { alone = refl; joined = λ v. joined_at (codes "--h") v refl refl refl })
-name_cut argument.Connections name e = subst IsCut (some_is e) (record { alone = refl; joined = λ v. joined_at (codes "--connections") v refl refl refl })
-name_cut argument.Keep name e = subst IsCut (some_is e) (record { alone = refl; joined = λ v. joined_at (codes "--keep") v refl refl refl })
+name_cut argument.D name e = subst IsCut (same_Some _ _ e) (record { alone = refl; joined = λ v. joined_at (codes "--d") v refl refl refl })
+name_cut argument.K name e = subst IsCut (same_Some _ _ e) (record { alone = refl; joined = λ v. joined_at (codes "--k") v refl refl refl })
+name_cut argument.Tol name e = subst IsCut (same_Some _ _ e) (record { alone = refl; joined = λ v. joined_at (codes "--tol") v refl refl refl })
+name_cut argument.W name e = subst IsCut (same_Some _ _ e) (record { alone = refl; joined = λ v. joined_at (codes "--w") v refl refl refl })
+name_cut argument.H name e = subst IsCut (same_Some _ _ e) (record { alone = refl; joined = λ v. joined_at (codes "--h") v refl refl refl })
+name_cut argument.Connections name e = subst IsCut (same_Some _ _ e) (record { alone = refl; joined = λ v. joined_at (codes "--connections") v refl refl refl })
+name_cut argument.Keep name e = subst IsCut (same_Some _ _ e) (record { alone = refl; joined = λ v. joined_at (codes "--keep") v refl refl refl })
 
 -- the parts of a word, joined again, are the word
 abbrev pub Joins : List ℕ × Option (List ℕ) → List ℕ → Type 0

@@ -1,5 +1,6 @@
 -- What `clap` finds for words that give values.
-use Rattle.std.proofs.Common.{◌≡◌, ◌≢◌, ◌∙◌, ◌==◌, ◌++◌, ℕ, Bool, true, false, cond, refl, sym, ap, subst, codes, List, [], ◌∷◌, Option, Some, None, map, fold, inl, inr, unwrap_or}
+use Rattle.std.proofs.Common.{◌≡◌, ◌≢◌, ◌∙◌, ◌==◌, ◌++◌, ℕ, Bool, true, false, cond, refl, sym, ap, subst, codes, List, [], ◌∷◌, Option, Some, None, map, fold, inl, inr, append-nil}
+use Rattle.std.proofs.lemmas.Option.{same_Some}
 use Rattle.std.specs.Prelude.{All, AllPairs, Contains}
 use Rattle.std.specs.Str.{bytes_eq}
 use Rattle.std.proofs.lemmas.Slice.Eq.{bytes_eq-Decides}
@@ -16,7 +17,7 @@ use Rattle.words.specs.declared.argument.Argument.{Argument}
 use Rattle.words.specs.declared.argument.Argument.TheVariants as argument
 use Rattle.words.proofs.Options.{same_argument, joined_at}
 use Rattle.words.proofs.GivenLists.{first_apart, others_once}
-use Rattle.words.proofs.Walks.{Use, ruled, placed, rows_for, is_used, used_once, placed_once, append_nil, named_cut, used_after, unused_more, unused_before, at, value_walked, joined_walked, opened_walked, placed_walked}
+use Rattle.words.proofs.Walks.{Use, ruled, placed, rows_for, is_used, used_once, placed_once, named_cut, used_after, unused_more, unused_before, at, value_walked, joined_walked, opened_walked, placed_walked}
 
 -- arguments by their names
 by_letters : List ℕ → Argument
@@ -62,48 +63,45 @@ not_hyphen x n = pick (x == 45) refl where
   pick false e = e
   pick true e = absurd (n (eqb-true x 45 e))
 
-some_is : {A : Type 0} {a b : A} → Some a ≡ Some b → a ≡ b
-some_is {A} {a} h = ap (λ o. unwrap_or o a) h
-
 is_long : (a : Argument) (name : List ℕ) → option_word a ≡ Some name → IsLong a name
 is_long argument.Port name e = absurd cc
-is_long argument.D name e = subst (IsLong argument.D) (some_is e) (record {
+is_long argument.D name e = subst (IsLong argument.D) (same_Some _ _ e) (record {
   alone = refl;
   joined = λ v. ap Some (named_cut (codes "d=" ++ v) ∙ joined_at (codes "d") v refl refl refl);
   plain = refl;
   plain_joined = λ v. refl;
 })
-is_long argument.K name e = subst (IsLong argument.K) (some_is e) (record {
+is_long argument.K name e = subst (IsLong argument.K) (same_Some _ _ e) (record {
   alone = refl;
   joined = λ v. ap Some (named_cut (codes "k=" ++ v) ∙ joined_at (codes "k") v refl refl refl);
   plain = refl;
   plain_joined = λ v. refl;
 })
-is_long argument.Tol name e = subst (IsLong argument.Tol) (some_is e) (record {
+is_long argument.Tol name e = subst (IsLong argument.Tol) (same_Some _ _ e) (record {
   alone = refl;
   joined = λ v. ap Some (named_cut (codes "tol=" ++ v) ∙ joined_at (codes "tol") v refl refl refl);
   plain = refl;
   plain_joined = λ v. refl;
 })
-is_long argument.W name e = subst (IsLong argument.W) (some_is e) (record {
+is_long argument.W name e = subst (IsLong argument.W) (same_Some _ _ e) (record {
   alone = refl;
   joined = λ v. ap Some (named_cut (codes "w=" ++ v) ∙ joined_at (codes "w") v refl refl refl);
   plain = refl;
   plain_joined = λ v. refl;
 })
-is_long argument.H name e = subst (IsLong argument.H) (some_is e) (record {
+is_long argument.H name e = subst (IsLong argument.H) (same_Some _ _ e) (record {
   alone = refl;
   joined = λ v. ap Some (named_cut (codes "h=" ++ v) ∙ joined_at (codes "h") v refl refl refl);
   plain = refl;
   plain_joined = λ v. refl;
 })
-is_long argument.Connections name e = subst (IsLong argument.Connections) (some_is e) (record {
+is_long argument.Connections name e = subst (IsLong argument.Connections) (same_Some _ _ e) (record {
   alone = refl;
   joined = λ v. ap Some (named_cut (codes "connections=" ++ v) ∙ joined_at (codes "connections") v refl refl refl);
   plain = refl;
   plain_joined = λ v. refl;
 })
-is_long argument.Keep name e = subst (IsLong argument.Keep) (some_is e) (record {
+is_long argument.Keep name e = subst (IsLong argument.Keep) (same_Some _ _ e) (record {
   alone = refl;
   joined = λ v. ap Some (named_cut (codes "keep=" ++ v) ∙ joined_at (codes "keep") v refl refl refl);
   plain = refl;
@@ -223,7 +221,7 @@ module _ (c : List Rule) where
       → AllPairs (λ g h. g.argument ≢ h.argument) given → AreUnused done given
       → Agrees (done ++ map use_of given) (fold (walked c []) w words)
   all_walked done [] words w a e values served once unused =
-      subst (λ x. Agrees (done ++ []) (fold (walked c []) w x)) (sym e) (subst (λ x. Agrees x w) (sym (append_nil done)) a)
+      subst (λ x. Agrees (done ++ []) (fold (walked c []) w x)) (sym e) (subst (λ x. Agrees x w) (sym (append-nil done)) a)
   all_walked done (g ∷ given) words w a (own, rest, e, f, more) values served once unused =
       let one = step done g own w a (option_word g.argument) refl f (All-head (λ g. IsValue g.value) g given values) (All-head (λ g. IsServed c g.argument) g given served) (All-head (λ h. is_used (name_of h.argument) done ≡ false) g given unused) in
       let others = all_walked (done ++ use_of g ∷ []) given rest (fold (walked c []) w own) one more (All-tail (λ g. IsValue g.value) g given values) (All-tail (λ g. IsServed c g.argument) g given served) (others_once g given once) (unused_still done g given (first_apart g given once) (All-tail (λ h. is_used (name_of h.argument) done ≡ false) g given unused)) in

@@ -1,5 +1,5 @@
 -- What `clap` holds after words of the grammar.
-use Rattle.std.proofs.Common.{◌≡◌, ◌∙◌, ◌==◌, ◌&&◌, ◌||◌, ◌++◌, ◌<◌, ℕ, Bool, true, false, cond, refl, sym, ap, List, [], ◌∷◌, Some, None, take, map, length, arith, inl, inr, ◌⊎◌}
+use Rattle.std.proofs.Common.{◌≡◌, ◌∙◌, ◌==◌, ◌&&◌, ◌||◌, ◌++◌, ◌<◌, ℕ, Bool, true, false, cond, refl, sym, ap, List, [], ◌∷◌, Some, None, take, map, length, arith, inl, inr, ◌⊎◌, append-nil}
 use Rattle.std.specs.Prelude.{nat_lt}
 use Rattle.std.specs.List.{list_any, before_first, position_or_len}
 use Rattle.std.specs.Str.{bytes_eq}
@@ -47,10 +47,6 @@ second_of_or false b h = h
 same_bytes : (n : Text) → bytes_eq n n ≡ true
 same_bytes n = (bytes_eq-Decides n n).1 refl
 
-pub append_nil : {A : Type 0} (xs : List A) → xs ++ [] ≡ xs
-append_nil [] = refl
-append_nil (x ∷ xs) = ap (λ t. x ∷ t) (append_nil xs)
-
 more_rows : (uses : List Use) (u : Use) → rows_for (uses ++ u ∷ []) ≡ rows_for uses ++ row_for u ∷ []
 more_rows [] u = refl
 more_rows (t ∷ uses) u = ap (λ rs. row_for t ∷ rs) (more_rows uses u)
@@ -65,12 +61,12 @@ no_row n change missing (u ∷ uses) h =
 
 pub used_once : (n v : Text) (uses : List Use) → is_used n uses ≡ false → used (ruled n) (v ∷ []) (rows_for uses) ≡ rows_for (uses ++ (n, v) ∷ [])
 used_once n v uses h =
-    ap (with_values n (reading_by (ruled n)) CommandLine (v ∷ [])) (no_row n (λ _. []) [] uses h ∙ append_nil (rows_for uses))
+    ap (with_values n (reading_by (ruled n)) CommandLine (v ∷ [])) (no_row n (λ _. []) [] uses h ∙ append-nil (rows_for uses))
     ∙ no_row n (more_values CommandLine (v ∷ [])) _ uses h ∙ sym (more_rows uses (n, v))
 
 pub placed_once : (n v : Text) (uses : List Use) → is_used n uses ≡ false → used (placed n) (v ∷ []) (rows_for uses) ≡ rows_for (uses ++ (n, v) ∷ [])
 placed_once n v uses h =
-    ap (with_values n (reading_by (ruled n)) CommandLine (v ∷ [])) (no_row n (λ _. []) [] uses h ∙ append_nil (rows_for uses))
+    ap (with_values n (reading_by (ruled n)) CommandLine (v ∷ [])) (no_row n (λ _. []) [] uses h ∙ append-nil (rows_for uses))
     ∙ no_row n (more_values CommandLine (v ∷ [])) _ uses h ∙ sym (more_rows uses (n, v))
 
 -- the name and the value of a word, as `clap` and as the grammar cut it

@@ -1,5 +1,5 @@
 -- The words of the command line.
-use Rattle.std.specs.Prelude.{◌≡◌, ℕ, ◌≤◌, ◌<◌, ◌^◌, List, [], ◌∷◌, Option, codes, decimal}
+use Rattle.std.specs.Prelude.{◌≡◌, ℕ, ◌≤◌, ◌<◌, ◌^◌, List, [], ◌∷◌, ◌++◌, Option, codes, decimal}
 use Rattle.sheet.specs.Sheet.{ExactSheet}
 use Rattle.lattice.specs.Lattice.{Measures}
 use Rattle.words.specs.Grammar.{Given, Gives, IsTextOf, IsGivenNumber, IsNumberOf}
@@ -77,4 +77,6 @@ Asks words (Task.Serve port connections keep) = Names words (Task.Serve port con
 
 abbrev pub usage_text : List ℕ
 usage_text =
-    codes "usage: oriedit cut\n       oriedit check [--d N] [--k N] [--tol N] [--w N] [--h N]\n       oriedit script [--keep PATH]\n       oriedit generate SEED COUNT\n       oriedit serve PORT [--connections N] [--keep PATH]\nnumbers are plain decimal digits\n"
+    codes "usage: oriedit cut\n       oriedit check [--d N] [--k N] [--tol N] [--w N] [--h N]\n"
+    ++ (codes "       oriedit script [--keep PATH]\n       oriedit generate SEED COUNT\n"
+    ++ codes "       oriedit serve PORT [--connections N] [--keep PATH]\nnumbers are plain decimal digits\n")

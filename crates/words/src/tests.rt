@@ -77,7 +77,7 @@ fn numbers(alloc: Global, words: &[String]) -> [u32; 5] {
 }
 
 #[test]
-fn a_command_without_words(rt: HostRuntime) -> Result<(), Fail> {
+fn a_command_may_have_no_words(rt: HostRuntime) -> Result<(), Fail> {
     let alloc = rt.alloc();
     let words = strings(alloc, &["cut"])?;
     assert!(rt; ask_for_cut(alloc, &words));
@@ -87,7 +87,7 @@ fn a_command_without_words(rt: HostRuntime) -> Result<(), Fail> {
 }
 
 #[test]
-fn options_of_check_in_any_order(rt: HostRuntime) -> Result<(), Fail> {
+fn options_of_check_come_in_any_order(rt: HostRuntime) -> Result<(), Fail> {
     let alloc = rt.alloc();
     let words = strings(alloc, &["check"])?;
     assert!(rt; numbers(alloc, &words) == [64, 128, 1000, 1, 1]);
@@ -100,7 +100,7 @@ fn options_of_check_in_any_order(rt: HostRuntime) -> Result<(), Fail> {
 }
 
 #[test]
-fn words_that_check_refuses(rt: HostRuntime) -> Result<(), Fail> {
+fn check_refuses_other_words(rt: HostRuntime) -> Result<(), Fail> {
     let alloc = rt.alloc();
     assert!(rt; is_usage(alloc, &["check", "--d", "256"])?);
     assert!(rt; is_usage(alloc, &["check", "--d", "4", "--d=4"])?);
@@ -111,7 +111,7 @@ fn words_that_check_refuses(rt: HostRuntime) -> Result<(), Fail> {
 }
 
 #[test]
-fn the_path_of_a_script(rt: HostRuntime) -> Result<(), Fail> {
+fn a_script_may_have_a_path(rt: HostRuntime) -> Result<(), Fail> {
     let alloc = rt.alloc();
     let kept = Ask::Script { keep: Some("a=b") };
     let words = strings(alloc, &["script", "--keep", "a=b"])?;
@@ -125,7 +125,7 @@ fn the_path_of_a_script(rt: HostRuntime) -> Result<(), Fail> {
 }
 
 #[test]
-fn words_that_script_refuses(rt: HostRuntime) -> Result<(), Fail> {
+fn script_refuses_other_words(rt: HostRuntime) -> Result<(), Fail> {
     let alloc = rt.alloc();
     assert!(rt; is_usage(alloc, &["script", "--keep", ""])?);
     assert!(rt; is_usage(alloc, &["script", "--keep", "-p"])?);
@@ -136,7 +136,7 @@ fn words_that_script_refuses(rt: HostRuntime) -> Result<(), Fail> {
 }
 
 #[test]
-fn the_numbers_of_a_generator(rt: HostRuntime) -> Result<(), Fail> {
+fn a_generator_has_two_numbers(rt: HostRuntime) -> Result<(), Fail> {
     let alloc = rt.alloc();
     let words = strings(alloc, &["generate", "18446744073709551615", "100000"])?;
     assert!(rt; turns(alloc, &words) == (u64::MAX, 100_000));
@@ -147,7 +147,7 @@ fn the_numbers_of_a_generator(rt: HostRuntime) -> Result<(), Fail> {
 }
 
 #[test]
-fn a_port_among_options(rt: HostRuntime) -> Result<(), Fail> {
+fn a_port_stands_among_options(rt: HostRuntime) -> Result<(), Fail> {
     let alloc = rt.alloc();
     let words = strings(
         alloc,
@@ -170,7 +170,7 @@ fn a_port_among_options(rt: HostRuntime) -> Result<(), Fail> {
 }
 
 #[test]
-fn words_that_serve_refuses(rt: HostRuntime) -> Result<(), Fail> {
+fn serve_refuses_other_words(rt: HostRuntime) -> Result<(), Fail> {
     let alloc = rt.alloc();
     assert!(rt; is_usage(alloc, &["serve", "0"])? && is_usage(alloc, &["serve", "65536"])?);
     assert!(rt; is_usage(alloc, &["serve"])? && is_usage(alloc, &["serve", "80", "81"])?);
@@ -180,7 +180,7 @@ fn words_that_serve_refuses(rt: HostRuntime) -> Result<(), Fail> {
 }
 
 #[test]
-fn words_that_want_a_keeper(rt: HostRuntime) -> Result<(), Fail> {
+fn these_words_want_a_keeper(rt: HostRuntime) -> Result<(), Fail> {
     let alloc = rt.alloc();
     assert!(rt; wants(alloc, &["script", "--keep", "p"])?);
     assert!(rt; wants(alloc, &["serve", "80", "--keep=p"])?);

@@ -1,5 +1,5 @@
 use Rattle.std.proofs.Common.{◌≡◌, ◌≤◌, ◌-◌, ◌⊎◌, [], length}
-use Rattle.api.specs.Answers.{Gave}
+use Rattle.ports.specs.Taken.{Gave}
 use Rattle.api.specs.Stages.{IsOpen}
 use Rattle.api.proofs.head.read_head.Given as goal
 

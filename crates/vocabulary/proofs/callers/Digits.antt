@@ -1,0 +1,6 @@
+-- Digit strings by their values.
+use Rattle.std.specs.Str.Parse.{AllDigits, digits_value}
+use Rattle.std.proofs.lemmas.Str.Parse.{IsNumeralModel, numerals_by_value, tells_digits}
+
+pub by_value : IsNumeralModel (AllDigits 10) (digits_value 10)
+by_value = numerals_by_value (AllDigits 10) tells_digits
