@@ -10,7 +10,7 @@ use Rattle.edits.specs.Answers.{Refuses as RefusesPlan}
 use Rattle.ports.specs.declared.stop.Stop.{Stop}
 use Rattle.ports.specs.declared.stop.Stop.TheVariants as stop
 use Rattle.subdivide.specs.CutAnswers.{IsCutAnswer}
-use Rattle.subdivide.specs.Live.{IsCut, RefusesStep}
+use Rattle.subdivide.specs.Live.{IsCut}
 use Rattle.subdivide.specs.declared.edge.CutBad.{CutBad}
 use Rattle.edits.specs.EditOf.{EditOf}
 use Rattle.edits.specs.declared.edit.Edit.{Edit}
@@ -227,11 +227,11 @@ pub makes_step : (p : ExactProject) (given : Option ℕ) (c : Change) → IsProj
     → (ready : Ready) → StepsOn p c ready → MakesStep p given c ready
 makes_step p given c is cut t ready s = record {
   rev = below p.rev last_rev is.rev t.room;
-  fits = step_fits p c ready s.0 s.1;
-  says = step_says p c ready s.0 s.1;
-  makes = λ e h. (let g : Goes p e c ready s.0 = goes_on p e c ready s.0 is h s.1 in (
+  fits = step_fits p c ready ready.next s.0;
+  says = step_says p c ready ready.next s.0;
+  makes = λ e h. (let g : Goes p e c ready ready.next = goes_on p e c ready ready.next is h s.0 in (
     g.next,
-    inr (subst IsCut (sym h.now) cut, inr ((λ x. t.right (subst (IsStale given) h.rev x)), inr ((λ x. t.room (sym h.rev ∙ x)), inr (g.next, g.changes, inr (subst IsCut (sym g.new_is) s.2, refl))))),
+    inr (subst IsCut (sym h.now) cut, inr ((λ x. t.right (subst (IsStale given) h.rev x)), inr ((λ x. t.room (sym h.rev ∙ x)), inr (g.next, g.changes, inr (subst IsCut (sym g.new_is) s.1, refl))))),
     g.says,
     λ after k. subst (λ (x : ExactProject). StandsFor x g.next.entry) (one_result p g.after after ready.step g.taken k) g.stands,
   ));
@@ -308,24 +308,28 @@ pub plan_ends : (p : ExactProject) (edit : Edit) (e : Stop EditBad)
 plan_ends p edit stop.NoMemory h = tt
 plan_ends p edit (stop.Why bad) h = inl (bad, h, refl)
 
-pub plan_on : (p : ExactProject) (edit : Edit) (d : Delta) (new : ExactPattern) → Fits p.pattern d
-    → Leads p.pattern d new → EditOf p.pattern edit (Ok new) → LeadsToCut p.pattern d → PlansOn p edit (Do d)
-plan_on p edit d new f l o t = (new, (d, refl, f, l, o), subst IsCut (leads_to_one p.pattern t.0 new d t.1 l) t.2)
+pub plan_on : (p : ExactProject) (edit : Edit) (d : Delta) (new next : ExactPattern) → Fits p.pattern d
+    → Leads p.pattern d new → EditOf p.pattern edit (Ok new)
+    → LeadsToCut p.pattern d next → PlansOn p edit (Do d) next
+plan_on p edit d new next f l o t = (
+  (d, refl, f, t.0, subst (λ (x : ExactPattern). EditOf p.pattern edit (Ok x)) (leads_to_one p.pattern new next d l t.0) o),
+  t.1,
+)
 
 pub plan_uncut : (p : ExactProject) (edit : Edit) (d : Delta) (new : ExactPattern) → Fits p.pattern d
     → Leads p.pattern d new → EditOf p.pattern edit (Ok new)
     → (why : Cause) → IsUncutAfter p.pattern d why → RefusesEdit p edit why
 plan_uncut p edit d new f l o why u = inr (Do d, new, (d, refl, f, l, o), u new l)
 
--- the step of a change, and its answer
-abbrev pub ready_of : Step → Reply → Ready
-ready_of step r = record { step = step; reply = r }
+-- the step of a change, the pattern after it, and its answer
+abbrev pub ready_of : Step → ExactPattern → Reply → Ready
+ready_of step next r = record { step = step; next = next; reply = r }
 
 pub edit_refuses : (p : ExactProject) (edit : Edit) (why : Cause) → RefusesEdit p edit why
     → Refuses p (change.Edit edit) why
 edit_refuses p edit why r = elim r [
   | inl s ↦ inl s
-  | inr s ↦ inr (ready_of s.0 (reply.Done (p.rev + 1)), s.1, (s.2, refl), s.3)
+  | inr s ↦ inr (ready_of s.0 s.1 (reply.Done (p.rev + 1)), s.1, (s.2, refl), s.3)
 ]
 
 pub import_refuses : (p : ExactProject) (lattice : Measures) (text : List ℕ) (read : CpLines)
@@ -333,22 +337,29 @@ pub import_refuses : (p : ExactProject) (lattice : Measures) (text : List ℕ) (
     → (why : Cause) → RefusesEdit p (edit.Lines read.lines) why → Refuses p (change.Import lattice text) why
 import_refuses p lattice text read is why r = elim r [
   | inl s ↦ inl (inr (read, is, s))
-  | inr s ↦ inr (ready_of s.0 (reply.Imported (p.rev + 1) (length read.lines) read.dropped), s.1, (read, is, s.2, refl), s.3)
+  | inr s ↦ inr (ready_of s.0 s.1 (reply.Imported (p.rev + 1) (length read.lines) read.dropped), s.1, (read, is, s.2, refl), s.3)
 ]
 
 pub undo_uncut : (p : ExactProject) (d back : Delta) → IsLast p.history.past d → back ≡ inverse_of d
     → Fits p.pattern back → (why : Cause) → IsUncutAfter p.pattern back why → Refuses p change.Undo why
 undo_uncut p d back l e f why u =
-    inr (ready_of Undo (reply.Done (p.rev + 1)), f.leads.0, (refl, (d, l, subst (λ (x : Delta). Leads p.pattern x f.leads.0) e f.leads.1), refl), u f.leads.0 f.leads.1)
+    inr (ready_of Undo f.leads.0 (reply.Done (p.rev + 1)), f.leads.0, (refl, (d, l, subst (λ (x : Delta). Leads p.pattern x f.leads.0) e f.leads.1), refl), u f.leads.0 f.leads.1)
 
 pub redo_uncut : (p : ExactProject) (d : Delta) → IsFirst p.history.future d → Fits p.pattern d
     → (why : Cause) → IsUncutAfter p.pattern d why → Refuses p change.Redo why
-redo_uncut p d l f why u = inr (ready_of Redo (reply.Done (p.rev + 1)), f.leads.0, (refl, (d, l, f.leads.1), refl), u f.leads.0 f.leads.1)
+redo_uncut p d l f why u = inr (ready_of Redo f.leads.0 (reply.Done (p.rev + 1)), f.leads.0, (refl, (d, l, f.leads.1), refl), u f.leads.0 f.leads.1)
 
 -- an end that is handed on
 pub handed_on : {A : Type 0} (r : Result A Early) (P : Cause → Type 0) {y e : Early} → r ≡ Err y → y ≡ e
     → EndsBy P e → IfErr r (EndsBy P)
 handed_on {A = A} r P same end h = subst (λ (x : Result A Early). IfErr x (EndsBy P)) (sym same) (subst (EndsBy P) (sym end) h)
+
+-- where cutting refuses the pattern to which a delta leads, it refuses each such pattern
+pub uncut_after : (old new : ExactPattern) (d : Delta) → Leads old d new → (end : Stop CutBad)
+    → RefusesBy (IsCutAnswer new) end → EndsBy (IsUncutAfter old d) (of_cut end)
+uncut_after old new d l stop.NoMemory h = tt
+uncut_after old new d l (stop.Why bad) h =
+    λ other k. (bad, subst (λ (x : ExactPattern). IsCutAnswer x (Err bad)) (leads_to_one old new other d l k) h, refl)
 
 -- the delta that is planned for an edit of this pattern
 pub record IsPlanned (now : ExactPattern) (edit : Edit) (d : Delta) : Type 0 where

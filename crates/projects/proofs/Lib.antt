@@ -1,3 +1,4 @@
+pub mod Callers
 pub mod Walks
 pub mod Stepping
 pub mod Entries

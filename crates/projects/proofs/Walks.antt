@@ -1,7 +1,7 @@
 -- Walks along deltas, from one pattern to the next.
 use Rattle.std.proofs.Common.{◌≡◌, ℕ, zero, suc, List, [], ◌∷◌, ◌++◌, drop, refl, sym, ap, subst, ◌∙◌}
 use Rattle.std.proofs.lemmas.List.{same_from_push}
-use Rattle.std.specs.Prelude.{◌↔◌, Option, Some, None, IsSome, IfSome}
+use Rattle.std.specs.Prelude.{◌↔◌, Option, Some, None, IsSome}
 use Rattle.sheet.specs.Pattern.{ExactPattern, IsPattern}
 use Rattle.pattern.specs.Deltas.{Fits, Leads, inverse_of}
 use Rattle.pattern.specs.declared.delta.Delta.{Delta}
@@ -119,6 +119,3 @@ some_proves found x e h = h.0 (subst IsSome (sym e) (some_is x))
   where
     some_is : {Y : Type 0} (y : Y) → IsSome (Some y)
     some_is y = refl
-
-pub some_gives : {X : Type 0} (P : X → Type 0) (found : Option X) (x : X) → found ≡ Some x → IfSome found P → P x
-some_gives P found x e h = subst (λ r. IfSome r P) e h

@@ -32,8 +32,8 @@ Plans p edit step new =
     (d : Delta) × (step ≡ Do d) × Fits p.pattern d × Leads p.pattern d new × EditOf p.pattern edit (Ok new)
 
 -- and that pattern is cut
-abbrev pub PlansOn : ExactProject → Edit → Step → Type 0
-PlansOn p edit step = (new : ExactPattern) × Plans p edit step new × IsCut new
+abbrev pub PlansOn : ExactProject → Edit → Step → ExactPattern → Type 0
+PlansOn p edit step new = Plans p edit step new × IsCut new
 
 -- the edit is refused
 abbrev pub StopsEdit : ExactProject → Edit → Cause → Type 0
@@ -56,9 +56,9 @@ StepsTo p change.Undo ready new =
 StepsTo p change.Redo ready new =
     (ready.step ≡ Redo) × LeadsForth p new × (ready.reply ≡ reply.Done (p.rev + 1))
 
--- and that pattern is cut
+-- the change makes a step to the pattern that comes with it, which is cut
 abbrev pub StepsOn : ExactProject → Change → Ready → Type 0
-StepsOn p c ready = (new : ExactPattern) × StepsTo p c ready new × IsCut new
+StepsOn p c ready = StepsTo p c ready ready.next × IsCut ready.next
 
 -- the change is refused before it leads to a pattern
 abbrev pub Stops : ExactProject → Change → Cause → Type 0
@@ -75,9 +75,9 @@ abbrev pub Refuses : ExactProject → Change → Cause → Type 0
 Refuses p c why =
     Stops p c why ⊎ ((ready : Ready) × (new : ExactPattern) × StepsTo p c ready new × IsUncut new why)
 
--- the pattern to which the delta leads is cut, or is not
-abbrev pub LeadsToCut : ExactPattern → Delta → Type 0
-LeadsToCut old delta = (new : ExactPattern) × Leads old delta new × IsCut new
+-- the delta leads to this pattern, which is cut, or to one that is not
+abbrev pub LeadsToCut : ExactPattern → Delta → ExactPattern → Type 0
+LeadsToCut old delta new = Leads old delta new × IsCut new
 
 abbrev pub IsUncutAfter : ExactPattern → Delta → Cause → Type 0
 IsUncutAfter old delta why = (new : ExactPattern) → Leads old delta new → IsUncut new why

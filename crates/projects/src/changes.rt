@@ -4,6 +4,7 @@ ghost use Rattle.dialogue.specs.Revs.{last_rev};
 ghost use Rattle.dialogue.specs.declared.cause.Cause.TheVariants as cause;
 ghost use Rattle.dialogue.specs.declared.command.Change.TheVariants as change;
 ghost use Rattle.pattern.specs.Deltas.{Fits};
+ghost use Rattle.subdivide.specs.Live.{IsCut};
 ghost use Rattle.projects.specs.Projects.{IsProject};
 ghost use Rattle.projects.specs.Machine.{Unless, IsStale};
 ghost use Rattle.projects.specs.Ends.{EndsBy};
@@ -17,23 +18,24 @@ use cpfile::read_cp;
 use dialogue::{Cause, Change, LAST_REV, Reply};
 use edits::{Edit, plan};
 use lattice::Lattice;
-use pattern::Delta;
-use ports::{Listed, Steps};
+use pattern::{Delta, delta_leads_to_one};
+use ports::Listed;
 use std::alloc::Global;
-use std::marker::Brand;
-use std::sync::ledger::{Blank, Ledger};
 use subdivide::Live;
 
-/// A step that can be taken, and what is answered after it.
+/// A step that can be taken, the pattern to which it leads, cut, and what is answered after it.
 #[derive(Drop)]
 pub(crate) struct Ready {
     pub(crate) step: Step,
+    pub(crate) next: Live,
     pub(crate) reply: Reply,
 }
 
-/// The step that a change makes of a project, where the rev is right and both patterns are cut.
+/// The step that a change makes of a project, where the rev is right and both patterns are cut. The
+/// present one is kept.
 pub(crate) fn step_of(
     alloc: Global,
+    kept: &mut Option<Live>,
     project: Project,
     given: Option<u64>,
     change: &Change,
@@ -41,9 +43,26 @@ pub(crate) fn step_of(
     ensures ok { IfOk result (MakesStep project given change.now) }
     ensures err { IfErr result (EndsBy (RefusesChange project given change.now)) }
 {
-    let opened = CutProject::new(alloc, project)?;
+    let opened = CutProject::new(alloc, kept.take(), project)?;
+    let ready = tested_step(alloc, &opened, given, change);
+    *kept = Some(opened.live);
+    ready
+}
+
+/// The step that a change makes of a project that is cut, where the rev is right.
+fn tested_step(
+    alloc: Global,
+    opened: &CutProject,
+    given: Option<u64>,
+    change: &Change,
+) -> Result<Ready, Early>
+    requires is { IsProject opened.now }
+    requires cut { IsCut opened.now.pattern }
+    ensures ok { IfOk result (MakesStep opened.now given change.now) }
+    ensures err { IfErr result (EndsBy (RefusesChange opened.now given change.now)) }
+{
     test_rev(opened.rev, given)?;
-    change_step(alloc, &opened, change)
+    change_step(alloc, opened, change)
 }
 
 /// Whether the rev that was given, if one was, is the kept one, and the kept one can rise.
@@ -82,9 +101,10 @@ fn edit_step(alloc: Global, opened: &CutProject, edit: &Edit) -> Result<Ready, E
     ensures ok { IfOk result (StepsOn opened.now (change.Edit edit.now)) }
     ensures err { IfErr result (EndsBy (Refuses opened.now (change.Edit edit.now))) }
 {
-    let step = planned(alloc, opened, edit)?;
+    let (step, next) = planned(alloc, opened, edit)?;
     Ok(Ready {
         step,
+        next,
         reply: Reply::Done {
             rev: opened.rev + 1,
         },
@@ -106,9 +126,10 @@ fn import_step(
     let read = read_cp(alloc, text.as_slice(), lattice, &sheet)?;
     let drawn = read.lines.as_slice().len() as u64;
     let dropped = read.dropped;
-    let step = planned(alloc, opened, &Edit::Lines(read.lines))?;
+    let (step, next) = planned(alloc, opened, &Edit::Lines(read.lines))?;
     Ok(Ready {
         step,
+        next,
         reply: Reply::Imported {
             rev: opened.rev + 1,
             drawn,
@@ -117,14 +138,14 @@ fn import_step(
     })
 }
 
-/// The step of an edit, where the pattern to which it leads is cut.
-fn planned(alloc: Global, opened: &CutProject, edit: &Edit) -> Result<Step, Early>
-    ensures ok { IfOk result (PlansOn opened.now edit.now) }
+/// The step of an edit, and the pattern to which it leads, cut.
+fn planned(alloc: Global, opened: &CutProject, edit: &Edit) -> Result<(Step, Live), Early>
+    ensures ok { IfOk result (λ made. PlansOn opened.now edit.now made.0 made.1) }
     ensures err { IfErr result (EndsBy (RefusesEdit opened.now edit.now)) }
 {
     let delta = plan(alloc, opened.live.pattern(), edit)?;
-    check(alloc, &opened.live, &delta)?;
-    Ok(Step::Do(delta))
+    let next = cut_after(alloc, &opened.live, &delta)?;
+    Ok((Step::Do(delta), next))
 }
 
 /// The step that takes the last change back.
@@ -137,9 +158,10 @@ fn undo_step(alloc: Global, opened: &CutProject) -> Result<Ready, Early>
         return Err(Early::Refused(Cause::NothingToUndo));
     };
     let back = last.copy(alloc)?.inverse();
-    check(alloc, &opened.live, &back)?;
+    let next = cut_after(alloc, &opened.live, &back)?;
     Ok(Ready {
         step: Step::Undo,
+        next,
         reply: Reply::Done {
             rev: opened.rev + 1,
         },
@@ -152,36 +174,26 @@ fn redo_step(alloc: Global, opened: &CutProject) -> Result<Ready, Early>
     ensures ok { IfOk result (StepsOn opened.now change.Redo) }
     ensures err { IfErr result (EndsBy (Refuses opened.now change.Redo)) }
 {
-    let Some(next) = opened.history.next() else {
+    let Some(first) = opened.history.next() else {
         return Err(Early::Refused(Cause::NothingToRedo));
     };
-    check(alloc, &opened.live, next)?;
+    let next = cut_after(alloc, &opened.live, first)?;
     Ok(Ready {
         step: Step::Redo,
+        next,
         reply: Reply::Done {
             rev: opened.rev + 1,
         },
     })
 }
 
-/// Whether the pattern to which a delta leads is cut.
-fn check(alloc: Global, live: &Live, delta: &Delta) -> Result<(), Early>
+/// The pattern to which a delta leads, cut.
+fn cut_after(alloc: Global, live: &Live, delta: &Delta) -> Result<Live, Early>
     requires { Fits live.now delta.now }
-    ensures ok { IfOk result (λ _. LeadsToCut live.now delta.now) }
+    ensures ok { IfOk result (LeadsToCut live.now delta.now) }
     ensures err { IfErr result (EndsBy (IsUncutAfter live.now delta.now)) }
 {
-    checked::<Brand>(alloc, live, delta, Blank::new(1))
-}
-
-/// The same, with a counter of its own.
-fn checked<L: Ledger>(alloc: Global, live: &Live, delta: &Delta, blank: Blank) -> Result<(), Early>
-    requires fits { Fits live.now delta.now }
-    requires name { blank.name ≡ L.name }
-    requires parts { blank.parts ≡ L.parts }
-    requires some { 0 < blank.parts }
-    ensures ok { IfOk result (λ _. LeadsToCut live.now delta.now) }
-    ensures err { IfErr result (EndsBy (IsUncutAfter live.now delta.now)) }
-{
-    let _plan = live.check(alloc, delta, &mut Steps::<L>::begin(blank))?;
-    Ok(())
+    delta_leads_to_one();
+    let next = live.pattern().applied(alloc, delta)?;
+    Ok(Live::start(alloc, next)?)
 }

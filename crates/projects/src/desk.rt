@@ -13,20 +13,24 @@ use dialogue::{Cause, Change, Command, Reply};
 use ports::{Listed, NoMemory};
 use sheet::Sheet;
 use std::alloc::Global;
+use subdivide::Live;
 use vocabulary::Name;
 
-/// What answers commands, one after another. It keeps nothing between two calls.
-#[derive(Debug, Drop)]
-pub struct Desk;
+/// What answers commands, one after another. It keeps the last pattern that was cut for a change,
+/// so that the next change of it does not cut it again. No reply depends on what is kept.
+#[derive(Drop)]
+pub struct Desk {
+    kept: Option<Live>,
+}
 
 impl Desk {
-    /// A desk.
+    /// A desk that keeps nothing yet.
     ///
     /// # Errors
     ///
     /// `NoMemory` where memory for what it keeps runs out.
     pub fn new(_alloc: Global) -> Result<Desk, NoMemory> {
-        Ok(Desk)
+        Ok(Desk { kept: None })
     }
 
     /// The reply to a command, over the tables of a keeper. It is `Refused` with the first rule that
@@ -49,7 +53,7 @@ impl Desk {
         ensures cause { RepliesWhereRose (K.faults keeper.old) (K.faults keeper.new) result }
         ensures path { K.keeper_path keeper.new ≡ K.keeper_path keeper.old }
     {
-        match answer(alloc, keeper, command) {
+        match answer(alloc, &mut self.kept, keeper, command) {
             Ok(reply) => Ok(reply),
             Err(Early::Refused(cause)) => Ok(Reply::Refused(cause)),
             Err(Early::KeeperFailed) => Ok(Reply::KeeperFailed),
@@ -59,7 +63,12 @@ impl Desk {
 }
 
 /// The reply to a command, or why it ends before it is done.
-fn answer<K: Keeper>(alloc: Global, keeper: &mut K, command: &Command) -> Result<Reply, Early>
+fn answer<K: Keeper>(
+    alloc: Global,
+    kept: &mut Option<Live>,
+    keeper: &mut K,
+    command: &Command,
+) -> Result<Reply, Early>
     ensures told { Tells (K.tables keeper.old) (K.is_clean keeper.new) (K.tables keeper.new)
         (λ before after. Does before command.now result after) }
     ensures clean { K.is_clean keeper.new → K.is_clean keeper.old }
@@ -75,7 +84,9 @@ fn answer<K: Keeper>(alloc: Global, keeper: &mut K, command: &Command) -> Result
         Command::PatternText { name } => written(alloc, &fetch_project(alloc, keeper, name)?),
         Command::CpText { name } => cp_written(alloc, fetch_project(alloc, keeper, name)?),
         Command::FoldText { name } => fold_written(alloc, fetch_project(alloc, keeper, name)?),
-        Command::Change { name, rev, change } => change_project(alloc, keeper, name, *rev, change),
+        Command::Change { name, rev, change } => {
+            change_project(alloc, kept, keeper, name, *rev, change)
+        }
     }
 }
 
@@ -125,9 +136,10 @@ fn list_projects<K: Keeper>(alloc: Global, keeper: &mut K) -> Result<Reply, Earl
     Ok(Reply::Names(Listed::new(keeper.names(alloc)?)))
 }
 
-/// A change of a project.
+/// A change of a project. After it the new pattern is kept.
 fn change_project<K: Keeper>(
     alloc: Global,
+    kept: &mut Option<Live>,
     keeper: &mut K,
     name: &Name,
     given: Option<u64>,
@@ -140,7 +152,8 @@ fn change_project<K: Keeper>(
     ensures path { K.keeper_path keeper.new ≡ K.keeper_path keeper.old }
 {
     let project = fetch_project(alloc, keeper, name)?;
-    let ready = step_of(alloc, project, given, change)?;
+    let ready = step_of(alloc, kept, project, given, change)?;
     keeper.commit(alloc, name, &ready.step)?;
+    *kept = Some(ready.next);
     Ok(ready.reply)
 }

@@ -76,15 +76,36 @@ fn has_failed(reply: &Reply) -> bool {
     }
 }
 
-/// Whether the project has the pattern of this text.
-fn has_text(alloc: Global, keeper: &mut MemKeeper, text: &[u8]) -> Result<bool, Fail> {
-    match keeper.fetch(alloc, &Name::new(b"sq")?)? {
+/// Whether the project under the name has the pattern of this text.
+fn has_text(alloc: Global, keeper: &mut MemKeeper, name: &[u8], text: &[u8]) -> Result<bool, Fail> {
+    match keeper.fetch(alloc, &Name::new(name)?)? {
         Some(project) => {
             let bytes = pattern_bytes(alloc, project.pattern())?;
             Ok(bytes.as_slice() == text)
         }
         None => Ok(false),
     }
+}
+
+/// A keeper that has the projects `a` and `b` without creases.
+fn two_projects(alloc: Global) -> Result<MemKeeper, Fail> {
+    let mut keeper = MemKeeper::new(alloc, Vec::new(alloc), Vec::new(alloc));
+    let _first = keeper.create(alloc, &Name::new(b"a")?, Sheet::square())?;
+    let _second = keeper.create(alloc, &Name::new(b"b")?, Sheet::square())?;
+    Ok(keeper)
+}
+
+/// The reply of a desk to a change of the project under a name, at any rev.
+fn changed(
+    alloc: Global,
+    desk: &mut Desk,
+    keeper: &mut MemKeeper,
+    name: &[u8],
+    change: Change,
+) -> Result<Reply, Fail> {
+    let name = Name::new(name)?;
+    let rev = None;
+    Ok(desk.act(alloc, keeper, &Command::Change { name, rev, change })?)
 }
 
 #[test]
@@ -104,9 +125,9 @@ fn an_undo_takes_all_lines_back(rt: HostRuntime) -> Result<(), Fail> {
         b"2 -200 -200 200 200\n3 -200 200 200 -200\n2 -200 -200 200 200\n1 -200 -200 200 -200";
     let reply = act(alloc, &mut keeper, &change(import(alloc, lines)?)?)?;
     assert!(rt; is_imported(&reply, 3, 1));
-    assert!(rt; has_text(alloc, &mut keeper, b"q2 1\nM 0,0 1,1\nV 0,1 1,0\n")?);
+    assert!(rt; has_text(alloc, &mut keeper, b"sq", b"q2 1\nM 0,0 1,1\nV 0,1 1,0\n")?);
     let _done = act(alloc, &mut keeper, &change(Change::Undo)?)?;
-    assert!(rt; has_text(alloc, &mut keeper, BLANK)?);
+    assert!(rt; has_text(alloc, &mut keeper, b"sq", BLANK)?);
     Ok(())
 }
 
@@ -125,5 +146,41 @@ fn names_that_fail(rt: HostRuntime) -> Result<(), Fail> {
     let alloc = rt.alloc();
     let reply = act(alloc, &mut failing(alloc)?, &Command::List)?;
     assert!(rt; has_failed(&reply));
+    Ok(())
+}
+
+/// The pattern of one project is never taken for that of the other.
+#[test]
+fn two_projects_in_turn(rt: HostRuntime) -> Result<(), Fail> {
+    let alloc = rt.alloc();
+    let mut keeper = two_projects(alloc)?;
+    let mut desk = Desk::new(alloc)?;
+    let up = import(alloc, b"2 -200 -200 200 200")?;
+    let down = import(alloc, b"3 -200 200 200 -200")?;
+    let again = import(alloc, b"3 -200 200 200 -200")?;
+    let first = changed(alloc, &mut desk, &mut keeper, b"a", up)?;
+    assert!(rt; is_imported(&first, 1, 0));
+    let second = changed(alloc, &mut desk, &mut keeper, b"b", down)?;
+    assert!(rt; is_imported(&second, 1, 0));
+    let _third = changed(alloc, &mut desk, &mut keeper, b"a", again)?;
+    assert!(rt; has_text(alloc, &mut keeper, b"a", b"q2 1\nM 0,0 1,1\nV 0,1 1,0\n")?);
+    assert!(rt; has_text(alloc, &mut keeper, b"b", b"q2 1\nV 0,1 1,0\n")?);
+    Ok(())
+}
+
+/// A refusal leaves what is kept, and it serves neither project wrongly.
+#[test]
+fn refused_in_turn(rt: HostRuntime) -> Result<(), Fail> {
+    let alloc = rt.alloc();
+    let mut keeper = two_projects(alloc)?;
+    let mut desk = Desk::new(alloc)?;
+    let up = import(alloc, b"2 -200 -200 200 200")?;
+    let _first = changed(alloc, &mut desk, &mut keeper, b"a", up)?;
+    let second = changed(alloc, &mut desk, &mut keeper, b"b", Change::Undo)?;
+    assert!(rt; is_refused(&second, Cause::NothingToUndo));
+    let third = changed(alloc, &mut desk, &mut keeper, b"a", Change::Redo)?;
+    assert!(rt; is_refused(&third, Cause::NothingToRedo));
+    let _fourth = changed(alloc, &mut desk, &mut keeper, b"a", Change::Undo)?;
+    assert!(rt; has_text(alloc, &mut keeper, b"a", BLANK)?);
     Ok(())
 }

@@ -11,6 +11,7 @@ mod memory;
 mod open;
 mod project;
 mod questions;
+mod same;
 mod step;
 mod tables;
 

@@ -20,7 +20,7 @@ pub(crate) fn shown(alloc: Global, project: Project) -> Result<Reply, Early>
     ensures answers { Answers (Shows project.rev project.pattern) result }
     ensures keeper { ¬ HasFailed result }
 {
-    let opened = CutProject::new(alloc, project)?;
+    let opened = CutProject::new(alloc, None, project)?;
     let subdivision = opened.live.subdivision(alloc)?;
     Ok(Reply::Shown {
         rev: opened.rev,
@@ -67,7 +67,7 @@ pub(crate) fn cp_written(alloc: Global, project: Project) -> Result<Reply, Early
     ensures answers { Answers (WritesCp project.rev project.pattern) result }
     ensures keeper { ¬ HasFailed result }
 {
-    let opened = CutProject::new(alloc, project)?;
+    let opened = CutProject::new(alloc, None, project)?;
     let subdivision = opened.live.subdivision(alloc)?;
     Ok(Reply::Text(Listed::new(write_cp(alloc, &subdivision)?)))
 }
@@ -77,7 +77,7 @@ pub(crate) fn fold_written(alloc: Global, project: Project) -> Result<Reply, Ear
     ensures answers { Answers (WritesFold project.rev project.pattern) result }
     ensures keeper { ¬ HasFailed result }
 {
-    let opened = CutProject::new(alloc, project)?;
+    let opened = CutProject::new(alloc, None, project)?;
     let subdivision = opened.live.subdivision(alloc)?;
     Ok(Reply::Text(Listed::new(write_fold(alloc, &subdivision)?)))
 }

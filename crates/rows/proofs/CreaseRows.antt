@@ -132,9 +132,6 @@ same_creases rows one other p q a b = same_list one.creases other.creases p.orde
 pub missing : {X : Type 0} (o : Option X) → o ≡ None → IsNone o
 missing {X} o e = subst (λ (x : Option X). IsNone x) (sym e) refl
 
-pub some_known : {X : Type 0} (P : X → Type 0) (o : Option X) (x : X) → o ≡ Some x → IfSome o P → P x
-some_known {X} P o x e h = subst (λ (y : Option X). IfSome y P) e h
-
 pub pattern_some : {E : Type 0} (on : ExactSheet) (rows : List ExactCreaseRow) (creases : List ExactCrease) (r : Result (Option ExactPattern) E) → AreRowsOf rows creases → IfOk r (λ found. IfSome found (HasJust on creases)) → IfOk r (λ found. IfSome found (IsPatternOf on rows))
 pattern_some on rows creases (Ok (Some made)) z h = pattern_is on rows creases made z h
 pattern_some on rows creases (Ok None) z h = tt

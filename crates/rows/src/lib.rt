@@ -8,7 +8,7 @@ mod step_rows;
 
 pub use crease_rows::CreaseRow;
 pub use laws::{rows_after_a_delta, rows_after_a_redo, rows_after_an_undo, rows_stand_for_one};
-pub use project::{ProjectRow, SheetRow, project_of};
+pub use project::{ProjectRow, STEP_LIMIT, SheetRow, are_marks, project_of};
 pub use step_rows::StepRow;
 
 #[cfg(test)]

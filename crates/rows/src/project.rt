@@ -7,14 +7,14 @@ ghost use Rattle.rows.specs.Rows.{IsSheetOf, RowsStandFor};
 
 use crate::crease_rows::{CreaseRow, pattern_of};
 use crate::step_rows::{StepRow, history_of};
-use dialogue::LAST_REV;
 use ports::NoMemory;
 use projects::Project;
 use sheet::Sheet;
 use std::alloc::Global;
+use vocabulary::LAST_REV;
 
 /// How many steps are kept.
-const MOST: u64 = 1000;
+pub const STEP_LIMIT: u64 = 1000;
 
 /// The row of a project: its rev, and the positions of its steps. Those of the past are from
 /// `low + 1` to `mark`, and those of the future from `mark + 1` to `high`.
@@ -73,13 +73,13 @@ pub fn project_of(
 }
 
 /// Whether the numbers of a row are in order, with at most 1,000 steps and no more than the rev.
-fn are_marks(row: &ProjectRow) -> bool
+pub fn are_marks(row: &ProjectRow) -> bool
     ensures { IsTrue result ↔ AreMarks row.now }
 {
     row.rev <= LAST_REV
         && row.low <= row.mark
         && row.mark <= row.high
-        && row.high - row.low <= MOST
+        && row.high - row.low <= STEP_LIMIT
         && row.high <= row.rev
 }
 

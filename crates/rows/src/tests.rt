@@ -1,5 +1,4 @@
 //! Rows of small projects, worked by hand.
-
 use crate::{CreaseRow, ProjectRow, SheetRow, StepRow, project_of};
 use pattern::pattern_bytes;
 use projects::Project;
@@ -62,7 +61,7 @@ fn stands(alloc: Global, row: ProjectRow, texts: &[(u64, &str)]) -> Result<bool,
 }
 
 #[test]
-fn drawn(rt: HostRuntime) -> Result<(), Fail> {
+fn rows_of_a_drawn_crease_are_a_project(rt: HostRuntime) -> Result<(), Fail> {
     let alloc = rt.alloc();
     let drawn = project(
         alloc,
@@ -81,7 +80,7 @@ fn drawn(rt: HostRuntime) -> Result<(), Fail> {
 }
 
 #[test]
-fn undone(rt: HostRuntime) -> Result<(), Fail> {
+fn rows_of_an_undone_crease_are_a_project(rt: HostRuntime) -> Result<(), Fail> {
     let alloc = rt.alloc();
     let undone = project(alloc, row(2, 0, 0, 1), None, &[], &[(1, DIAGONAL)])?;
     let Some(undone) = undone else {
@@ -93,7 +92,7 @@ fn undone(rt: HostRuntime) -> Result<(), Fail> {
 }
 
 #[test]
-fn numbers(rt: HostRuntime) -> Result<(), Fail> {
+fn numbers_of_a_row_are_in_order(rt: HostRuntime) -> Result<(), Fail> {
     let both = [(1, DIAGONAL), (2, TURNED)];
     for (row, is_one) in [
         (row(3, 0, 1, 2), true),
@@ -112,7 +111,7 @@ fn numbers(rt: HostRuntime) -> Result<(), Fail> {
 }
 
 #[test]
-fn positions(rt: HostRuntime) -> Result<(), Fail> {
+fn positions_of_steps_are_in_order(rt: HostRuntime) -> Result<(), Fail> {
     for steps in [
         [(1, DIAGONAL), (3, TURNED)],
         [(2, TURNED), (1, DIAGONAL)],
@@ -129,7 +128,7 @@ fn are_creases(alloc: Global, lines: &[(&str, &str)]) -> Result<bool, Fail> {
 }
 
 #[test]
-fn cells(rt: HostRuntime) -> Result<(), Fail> {
+fn cells_of_creases_are_tested(rt: HostRuntime) -> Result<(), Fail> {
     let alloc = rt.alloc();
     assert!(rt; are_creases(alloc, &[("0,1 1,0", "V"), ("0,0 1,1", "A")])?);
     for (seg, colour) in [
@@ -149,7 +148,7 @@ fn cells(rt: HostRuntime) -> Result<(), Fail> {
 }
 
 #[test]
-fn sheets(rt: HostRuntime) -> Result<(), Fail> {
+fn sides_of_a_sheet_are_tested(rt: HostRuntime) -> Result<(), Fail> {
     let alloc = rt.alloc();
     for (w, h) in [(0, 1), (9, 1), (1, 257)] {
         let sheet = Some(SheetRow { w, h });

@@ -1,5 +1,4 @@
 //! A step of a project in the tables.
-
 use crate::halt::Halt;
 use crate::marks::{done, redone, undone};
 use crate::reads::project_row;

@@ -1,5 +1,4 @@
 //! What a crash leaves of the tables, on disks in memory that stop after some calls.
-
 ghost use Rattle.std.specs.Prelude.{◌≡◌, false};
 
 use crate::SqlTold;

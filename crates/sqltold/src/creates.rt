@@ -1,5 +1,4 @@
 //! A new project in the tables.
-
 use crate::halt::Halt;
 use crate::reads::{is_there, select_creases, select_steps};
 use crate::writes::{insert_project, insert_sheet};

@@ -1,26 +1,10 @@
 //! What a step makes of the row of its project.
-ghost use Rattle.std.specs.Prelude.{◌≡◌, ◌+◌, ◌<◌, ◌↔◌, IfSome, IsSome, IsTrue};
+ghost use Rattle.std.specs.Prelude.{◌≡◌, ◌+◌, ◌<◌, ◌↔◌, IfSome, IsSome};
 ghost use Rattle.projects.specs.Projects.{last_rev};
 ghost use Rattle.rows.specs.Marks.{AreMarks, IsDone, IsUndone, IsRedone};
 
-use rows::ProjectRow;
-
-/// How many steps are kept.
-const MOST: u64 = 1000;
-
-/// The rev at which a project takes no step.
-const LAST_REV: u64 = 1_000_000_000_000;
-
-/// Whether the numbers of a row are in order, with at most 1,000 steps and no more than the rev.
-fn are_marks(row: &ProjectRow) -> bool
-    ensures { IsTrue result ↔ AreMarks row.now }
-{
-    row.rev <= LAST_REV
-        && row.low <= row.mark
-        && row.mark <= row.high
-        && row.high - row.low <= MOST
-        && row.high <= row.rev
-}
+use rows::{ProjectRow, STEP_LIMIT, are_marks};
+use vocabulary::LAST_REV;
 
 /// The rev after a step, or None exactly where the numbers are not in order or the rev is the last.
 fn next_rev(row: &ProjectRow) -> Option<u64>
@@ -42,7 +26,7 @@ pub(crate) fn done(row: &ProjectRow) -> Option<ProjectRow>
 {
     let rev = next_rev(row)?;
     let mark = row.mark + 1;
-    let low = if mark - row.low > MOST {
+    let low = if mark - row.low > STEP_LIMIT {
         row.low + 1
     } else {
         row.low

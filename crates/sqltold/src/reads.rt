@@ -1,5 +1,4 @@
 //! What is read of the tables: each query names its columns, and gives its rows at once.
-
 use crate::halt::Halt;
 use projects::{Name, Project};
 use rows::{CreaseRow, ProjectRow, SheetRow, StepRow, project_of};

@@ -1,5 +1,4 @@
 //! Keepers over tables, worked by hand.
-
 use crate::{SqlKeeper, SqlTold};
 use pattern::{between, pattern_bytes, read_pattern};
 use projects::{Keeper, KeeperEnd, Name, Project, Step};
@@ -91,7 +90,7 @@ fn is_listed(rt: &HostRuntime, path: &str, name: &Name) -> Result<bool, Fail> {
 }
 
 #[test]
-fn files_that_cannot_be_attached(rt: HostRuntime) -> Result<(), Fail> {
+fn other_files_cannot_be_attached(rt: HostRuntime) -> Result<(), Fail> {
     let name = Name::new(b"sq")?;
     for path in ["", ":memory:", "no/such/folder/p.db"] {
         let mut keeper = SqlKeeper::new(&rt);

@@ -1,18 +1,20 @@
 //! What is written into the tables, a statement each.
-
 use crate::halt::Halt;
 use pattern::{Colour, Crease, put_seg};
 use rows::ProjectRow;
 use sqlite::{Alter, Connection, Error, Transaction, params};
 
 const PROJECT: &str =
-    "CREATE TABLE IF NOT EXISTS project (name TEXT PRIMARY KEY, rev INTEGER NOT NULL, low INTEGER NOT NULL, mark INTEGER NOT NULL, high INTEGER NOT NULL)";
+    "CREATE TABLE IF NOT EXISTS project (name TEXT PRIMARY KEY, rev INTEGER NOT NULL, \
+        low INTEGER NOT NULL, mark INTEGER NOT NULL, high INTEGER NOT NULL)";
 
 const CREASE: &str =
-    "CREATE TABLE IF NOT EXISTS crease (name TEXT NOT NULL, seg TEXT NOT NULL, colour TEXT NOT NULL, PRIMARY KEY (name, seg))";
+    "CREATE TABLE IF NOT EXISTS crease (name TEXT NOT NULL, seg TEXT NOT NULL, colour TEXT NOT NULL, \
+        PRIMARY KEY (name, seg))";
 
 const STEP: &str =
-    "CREATE TABLE IF NOT EXISTS step (name TEXT NOT NULL, pos INTEGER NOT NULL, body TEXT NOT NULL, PRIMARY KEY (name, pos))";
+    "CREATE TABLE IF NOT EXISTS step (name TEXT NOT NULL, pos INTEGER NOT NULL, body TEXT NOT NULL, \
+        PRIMARY KEY (name, pos))";
 
 const SHEET: &str =
     "CREATE TABLE IF NOT EXISTS sheet (name TEXT PRIMARY KEY, w INTEGER NOT NULL, h INTEGER NOT NULL)";

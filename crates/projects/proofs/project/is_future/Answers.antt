@@ -1,5 +1,6 @@
 use Rattle.pattern.specs.Deltas.{Leads}
-use Rattle.projects.proofs.Walks.{future_goes_on, some_proves, some_gives}
+use Rattle.projects.proofs.Callers.{some_gives}
+use Rattle.projects.proofs.Walks.{future_goes_on, some_proves}
 use Rattle.projects.proofs.project.is_future.Goals as goal
 use Rattle.geometry.proofs.Segments.{join}
 

@@ -2,7 +2,8 @@ use Rattle.std.proofs.Common.{refl}
 use Rattle.pattern.specs.Deltas.{Leads, inverse_of}
 use Rattle.pattern.proofs.callers.Told.{answers_no}
 use Rattle.projects.specs.Projects.{IsPast}
-use Rattle.projects.proofs.Walks.{past_goes_on, past_stops, none_refutes, some_proves, some_gives}
+use Rattle.projects.proofs.Callers.{some_gives}
+use Rattle.projects.proofs.Walks.{past_goes_on, past_stops, none_refutes, some_proves}
 use Rattle.projects.proofs.project.is_past.Goals as goal
 use Rattle.geometry.proofs.Segments.{join}
 
