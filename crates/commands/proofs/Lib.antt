@@ -7,3 +7,4 @@ pub mod OnePoint
 pub mod OneField
 pub mod OneReading
 pub mod Gathering
+pub mod Spoken

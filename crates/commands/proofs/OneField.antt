@@ -7,15 +7,14 @@ use Rattle.std.proofs.lemmas.List.{append-nil}
 use Rattle.qroot2.specs.declared.text.NumText.{NumText}
 use Rattle.qroot2.specs.declared.text.NumText.TheVariants.{Syntax, Range}
 use Rattle.sheet.specs.Sheet.{IsLength}
-use Rattle.sheet.specs.declared.colour.Colour.{Colour}
 use Rattle.sheet.specs.declared.colour.Colour.TheVariants as colour
 use Rattle.sheet.specs.declared.mark.Mark.{Mark}
 use Rattle.sheet.specs.declared.mark.Mark.TheVariants as mark
 use Rattle.pattern.specs.NativeText.{letter}
 use Rattle.vocabulary.specs.Names.{IsName}
-use Rattle.dialogue.specs.Revs.{last_rev}
+use Rattle.vocabulary.specs.Revs.{last_rev, rev_text}
 use Rattle.vocabulary.specs.Verbs.{verb_text}
-use Rattle.commands.specs.Spelling.{mark_letter, IsWho, rev_text, who_text}
+use Rattle.commands.specs.Spelling.{mark_letter, IsWho, who_text}
 use Rattle.commands.specs.Fields.{Spells, AVerb, AName, AWho, AColour, AMark, ADirection, ANumber, ALength}
 use Rattle.commands.specs.declared.who.Who.{Who}
 use Rattle.vocabulary.specs.declared.verb.Verb.{Verb}

@@ -6,8 +6,8 @@ use Rattle.std.proofs.lemmas.Bool.Decides.{nat_tests}
 use Rattle.std.proofs.lemmas.List.{append-nil}
 use Rattle.std.proofs.lemmas.List.Elements.{All-head, All-tail}
 use Rattle.vocabulary.specs.Names.{IsName, IsNameByte}
-use Rattle.dialogue.specs.Revs.{last_rev}
-use Rattle.commands.specs.Spelling.{rev_text, who_text}
+use Rattle.vocabulary.specs.Revs.{last_rev, rev_text}
+use Rattle.commands.specs.Spelling.{who_text}
 use Rattle.commands.specs.Fields.{AWho}
 use Rattle.commands.specs.Taking.{ReadsOption, HasName}
 use Rattle.commands.specs.declared.who.Who.{Who}

@@ -1,9 +1,9 @@
 -- How the words of commands are spelled.
-use Rattle.std.specs.Prelude.{ℕ, ◌≤◌, List, [], ◌∷◌, ◌++◌, Option, Some, None, IfSome, codes, decimal}
+use Rattle.std.specs.Prelude.{ℕ, ◌≤◌, List, ◌++◌, IfSome}
 use Rattle.sheet.specs.declared.mark.Mark.{Mark}
 use Rattle.sheet.specs.declared.mark.Mark.TheVariants as mark
 use Rattle.vocabulary.specs.Names.{IsName}
-use Rattle.dialogue.specs.Revs.{last_rev}
+use Rattle.vocabulary.specs.Revs.{last_rev, rev_text}
 use Rattle.commands.specs.declared.who.Who.{Who}
 
 -- the letter of a mark
@@ -15,11 +15,6 @@ mark_letter mark.V = 86
 pub record IsWho (who : Who) : Type 0 where
   pub name : IsName who.name
   pub rev : IfSome who.rev (λ rev. rev ≤ last_rev)
-
--- `@` and the rev
-abbrev pub rev_text : Option ℕ → List ℕ
-rev_text None = []
-rev_text (Some rev) = 64 ∷ decimal rev
 
 abbrev pub who_text : Who → List ℕ
 who_text who = who.name ++ rev_text who.rev

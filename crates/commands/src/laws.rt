@@ -1,8 +1,10 @@
 //! The laws of reading: theorems, which are functions whose clauses say what holds.
-ghost use Rattle.std.specs.Prelude.{◌≡◌, ℕ, List, Option, Result};
+ghost use Rattle.std.specs.Prelude.{◌≡◌, ◌≢◌, ℕ, List, ◌++◌, Option, None, Result, Ok};
 ghost use Rattle.dialogue.specs.declared.command.Command.{Command as AnyCommand};
 ghost use Rattle.commands.specs.Lines.{IsWanted, ReadsCommand};
 ghost use Rattle.commands.specs.declared.bad.BadText.{BadText as AnyBad};
+ghost use Rattle.vocabulary.specs.Verbs.{verb_text};
+ghost use Rattle.vocabulary.specs.declared.verb.Verb.{Verb as AnyVerb};
 
 use qroot2::text_is_of_one_number;
 
@@ -21,3 +23,10 @@ pub fn wanted_is_one()
 {
     text_is_of_one_number();
 }
+
+/// A text that begins with the verb of a command is read as a command, or as what is wrong with it. It
+/// is no blank line and no comment.
+pub fn a_verb_is_never_silent()
+    ensures { (verb : AnyVerb) (behind : List ℕ) (answer : Result (Option AnyCommand) AnyBad)
+        → ReadsCommand (verb_text verb ++ behind) answer → answer ≢ Ok None }
+{}

@@ -24,7 +24,7 @@ mod written;
 
 pub use bad::BadText;
 pub use body::{body_len, write_body};
-pub use laws::{reading_is_one, wanted_is_one};
+pub use laws::{a_verb_is_never_silent, reading_is_one, wanted_is_one};
 pub use length::{bad_len, reply_len};
 pub use read::{lines_wanted, read_command};
 pub use reply::{write_bad, write_reply};

@@ -1,5 +1,4 @@
 //! Texts of replies, spelled by hand.
-
 use crate::{BadText, reply_len, write_bad, write_reply};
 use cpfile::{CpBad, CpWhy};
 use crimp::Run;
@@ -45,7 +44,7 @@ fn ray(number: u8, mark: Mark) -> Result<Ray, Fail> {
 }
 
 #[test]
-fn short_replies(rt: HostRuntime) -> Result<(), Fail> {
+fn short_replies_are_written(rt: HostRuntime) -> Result<(), Fail> {
     let alloc = rt.alloc();
     assert!(rt;
         says(
@@ -76,7 +75,7 @@ fn short_replies(rt: HostRuntime) -> Result<(), Fail> {
 }
 
 #[test]
-fn bad_texts(rt: HostRuntime) -> Result<(), Fail> {
+fn bad_texts_are_told_with_their_columns(rt: HostRuntime) -> Result<(), Fail> {
     let alloc = rt.alloc();
     let mut sink = MemSink::new(Vec::with_capacity(alloc, 100)?, 100, Vec::new(alloc));
     assert!(rt; write_bad(&mut sink, &BadText::Syntax { column: 4097 }).is_ok());
@@ -86,7 +85,7 @@ fn bad_texts(rt: HostRuntime) -> Result<(), Fail> {
 }
 
 #[test]
-fn lists(rt: HostRuntime) -> Result<(), Fail> {
+fn lists_are_written_line_by_line(rt: HostRuntime) -> Result<(), Fail> {
     let alloc = rt.alloc();
     let mut names = Vec::new(alloc);
     names.push(Name::new(b"a")?)?;
@@ -106,6 +105,12 @@ fn lists(rt: HostRuntime) -> Result<(), Fail> {
             b"text 2\nq2 1\nM 0,1/2 1,1/2\n"
         )?
     );
+    Ok(())
+}
+
+#[test]
+fn faults_are_written_line_by_line(rt: HostRuntime) -> Result<(), Fail> {
+    let alloc = rt.alloc();
     let mut list = Vec::new(alloc);
     list.push(Fault {
         at: point(b"1/2,1/2")?,
@@ -131,14 +136,15 @@ fn lists(rt: HostRuntime) -> Result<(), Fail> {
         says(
             alloc,
             &reply,
-            b"faults 3 2\n! maekawa 1/2,1/2 mountains 4 valleys 0\n! blocked 2-1r/2,2-1r/2 from 10 to 12 angle 2 count 1\n"
+            b"faults 3 2\n! maekawa 1/2,1/2 mountains 4 valleys 0\n\
+                ! blocked 2-1r/2,2-1r/2 from 10 to 12 angle 2 count 1\n"
         )?
     );
     Ok(())
 }
 
 #[test]
-fn shown(rt: HostRuntime) -> Result<(), Fail> {
+fn a_subdivision_is_shown(rt: HostRuntime) -> Result<(), Fail> {
     let alloc = rt.alloc();
     let Ok(subdivision) = scratch(alloc, &Pattern::empty(alloc, Sheet::square())) else {
         return Err(Fail::from("cut"));
@@ -158,7 +164,7 @@ fn shown(rt: HostRuntime) -> Result<(), Fail> {
 }
 
 #[test]
-fn vertices(rt: HostRuntime) -> Result<(), Fail> {
+fn a_vertex_that_passes_has_its_order(rt: HostRuntime) -> Result<(), Fail> {
     let alloc = rt.alloc();
     let at = point(b"1/2,1/2")?;
     let rays = [
@@ -188,7 +194,7 @@ fn vertices(rt: HostRuntime) -> Result<(), Fail> {
 }
 
 #[test]
-fn vertices_that_do_not_pass(rt: HostRuntime) -> Result<(), Fail> {
+fn a_vertex_that_does_not_pass_has_its_cause(rt: HostRuntime) -> Result<(), Fail> {
     let alloc = rt.alloc();
     let at = point(b"1/2,1/2")?;
     let Some(star) = Star::new(&[ray(2, Mark::M)?]) else {
@@ -222,7 +228,7 @@ fn vertices_that_do_not_pass(rt: HostRuntime) -> Result<(), Fail> {
 }
 
 #[test]
-fn imports(rt: HostRuntime) -> Result<(), Fail> {
+fn an_import_tells_its_counts(rt: HostRuntime) -> Result<(), Fail> {
     let alloc = rt.alloc();
     let reply = Reply::Imported {
         rev: 3,
@@ -238,7 +244,7 @@ fn refuses_line(alloc: Global, line: u64, why: CpWhy, text: &[u8]) -> Result<boo
 }
 
 #[test]
-fn texts_that_are_not_imported(rt: HostRuntime) -> Result<(), Fail> {
+fn texts_that_are_not_imported_name_their_lines(rt: HostRuntime) -> Result<(), Fail> {
     let alloc = rt.alloc();
     assert!(rt; refuses_line(alloc, 7, CpWhy::TooLong, b"refused TooLong line 7\n")?);
     assert!(rt; refuses_line(alloc, 1, CpWhy::Line, b"refused Line line 1\n")?);

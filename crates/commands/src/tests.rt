@@ -1,5 +1,4 @@
 //! Texts of commands, with their columns counted by hand.
-
 use crate::{BadText, lines_wanted, read_command};
 use dialogue::{Change, Command};
 use ports::Stop;
@@ -32,7 +31,7 @@ fn is_command(alloc: Global, text: &[u8]) -> bool {
 }
 
 #[test]
-fn words_of_every_command(rt: HostRuntime) -> Result<(), Fail> {
+fn every_command_is_read(rt: HostRuntime) -> Result<(), Fail> {
     let alloc = rt.alloc();
     assert!(rt; is_command(alloc, b"new sq") && is_command(alloc, b"new sq 2 1\r\n"));
     assert!(rt; is_command(alloc, b"list\n") && is_command(alloc, b"show sq\n"));
@@ -52,7 +51,7 @@ fn words_of_every_command(rt: HostRuntime) -> Result<(), Fail> {
 }
 
 #[test]
-fn revs(rt: HostRuntime) -> Result<(), Fail> {
+fn revs_are_read_behind_names(rt: HostRuntime) -> Result<(), Fail> {
     let alloc = rt.alloc();
     assert!(rt; is_command(alloc, b"undo sq@1000000000000") && is_command(alloc, b"redo sq"));
     assert!(rt; is_command(alloc, b"draw sq@0 M 0,0 1,1"));
@@ -67,7 +66,7 @@ fn revs(rt: HostRuntime) -> Result<(), Fail> {
 }
 
 #[test]
-fn columns(rt: HostRuntime) -> Result<(), Fail> {
+fn the_first_wrong_word_gives_the_column(rt: HostRuntime) -> Result<(), Fail> {
     let alloc = rt.alloc();
     assert!(rt; is_command(alloc, b"draw sq A 0,1/1048576 1,1/1048576"));
     assert!(rt; is_range(alloc, b"draw sq A 0,1/1048577 1,1/1048577", 11));
@@ -93,7 +92,7 @@ fn columns(rt: HostRuntime) -> Result<(), Fail> {
 }
 
 #[test]
-fn first_words(rt: HostRuntime) -> Result<(), Fail> {
+fn first_words_are_tested(rt: HostRuntime) -> Result<(), Fail> {
     let alloc = rt.alloc();
     assert!(rt; is_syntax(alloc, b"  cpsq", 3));
     assert!(rt; is_syntax(alloc, b"serve sq", 1));
@@ -107,7 +106,7 @@ fn first_words(rt: HostRuntime) -> Result<(), Fail> {
 }
 
 #[test]
-fn lines(rt: HostRuntime) -> Result<(), Fail> {
+fn a_command_is_one_line(rt: HostRuntime) -> Result<(), Fail> {
     let alloc = rt.alloc();
     assert!(rt; is_syntax(alloc, b"flip sq\n\n", 1));
     assert!(rt; is_syntax(alloc, b"list\nlist", 1));
@@ -129,7 +128,7 @@ fn lines(rt: HostRuntime) -> Result<(), Fail> {
 }
 
 #[test]
-fn words_of_an_import(rt: HostRuntime) -> Result<(), Fail> {
+fn words_of_an_import_are_tested(rt: HostRuntime) -> Result<(), Fail> {
     let alloc = rt.alloc();
     assert!(rt; is_command(alloc, b"import sq@3 1 1024 1 0"));
     assert!(rt; is_syntax(alloc, b"import sq 0 128 1000 1", 11));
@@ -168,7 +167,7 @@ fn is_import(alloc: Global, text: &[u8], lines: &[u8]) -> bool {
 }
 
 #[test]
-fn lines_of_an_import(rt: HostRuntime) -> Result<(), Fail> {
+fn an_import_takes_its_lines(rt: HostRuntime) -> Result<(), Fail> {
     let alloc = rt.alloc();
     assert!(rt; is_import(alloc, b"import sq 64 128 1000 0\n", b""));
     assert!(rt;
@@ -188,7 +187,7 @@ fn lines_of_an_import(rt: HostRuntime) -> Result<(), Fail> {
 }
 
 #[test]
-fn long_lines_of_an_import(rt: HostRuntime) -> Result<(), Fail> {
+fn a_long_line_of_an_import_is_refused(rt: HostRuntime) -> Result<(), Fail> {
     let alloc = rt.alloc();
     let mut text = [b'x'; 4122];
     text[..24].copy_from_slice(b"import sq 64 128 1000 2\n");
@@ -201,7 +200,7 @@ fn long_lines_of_an_import(rt: HostRuntime) -> Result<(), Fail> {
 }
 
 #[test]
-fn lines_that_are_wanted(rt: HostRuntime) -> Result<(), Fail> {
+fn an_import_wants_its_lines(rt: HostRuntime) -> Result<(), Fail> {
     assert!(rt; lines_wanted(b"import sq@3 64 128 1000 7\r") == 7);
     assert!(rt; lines_wanted(b"import sq 64 128 1000 40000") == 40_000);
     assert!(rt; lines_wanted(b"import sq 64 128 1000 7\r\r") == 0);

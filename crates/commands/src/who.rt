@@ -4,8 +4,7 @@ ghost use Rattle.commands.specs.Fields.{AWho};
 ghost use Rattle.commands.specs.Taking.{HasName, ReadsOption};
 
 use crate::number::read_number;
-use dialogue::LAST_REV;
-use vocabulary::Name;
+use vocabulary::{LAST_REV, Name};
 
 /// The project of a change, and the rev that it has to have, where one is given.
 #[derive(Drop)]
