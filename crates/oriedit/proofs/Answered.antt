@@ -40,7 +40,7 @@ untouched t clean H f = λ before e c. (before, record { told = e; tables = λ x
 no_turn : (b a : Tables) → a ≡ b → TurnTables b [] [] 0 a
 no_turn b a e = λ entries s. (entries, subst (λ t. StandFor t entries) (sym e) s, (refl, refl))
 
-rose_none : (a b : ℕ) → a ≤ b → RoseBy a b 0
+pub rose_none : (a b : ℕ) → a ≤ b → RoseBy a b 0
 rose_none a b l = omega (arith, l)
 
 pub gained_none : (h : Option (List ℕ)) → Gained h h []

@@ -1,5 +1,5 @@
 -- How the text that is due, and what came of writing it, make the end of a run.
-use Rattle.std.proofs.Common.{◌≡◌, ℕ, List, [], ◌∷◌, ◌<◌, ◌^◌, length, inl, inr, refl, subst, sym, ap, arith}
+use Rattle.std.proofs.Common.{◌≡◌, ℕ, List, [], ◌∷◌, ◌<◌, length, inl, inr, refl, subst, sym, ap, arith}
 use Rattle.std.specs.Prelude.{Option, Result, Ok, Err, IfOk}
 use Rattle.sheet.specs.Pattern.{ExactPattern}
 use Rattle.ports.specs.declared.stop.Stop.TheVariants as stop
@@ -14,10 +14,11 @@ use Rattle.edits.specs.declared.refusal.EditBad.{EditBad}
 use Rattle.judge.specs.declared.fault.Fault.{Fault}
 use Rattle.cpfile.specs.declared.bad.CpBad.{CpBad}
 use Rattle.cpfile.specs.declared.drawn.CpLines.{CpLines}
+use Rattle.ports.specs.Taken.{IsSpent}
 use Rattle.oriedit.specs.CutText.{CutText, PatternText, answer_status, refusal_text}
 use Rattle.oriedit.specs.CheckText.{empty_on, faults_status, JudgedText, FaultsText, DrawnText, CpAnswerText, CheckText}
-use Rattle.oriedit.specs.Reading.{IsSpent}
 use Rattle.oriedit.specs.Outputs.{Gained}
+use Rattle.oriedit.specs.Limits.{input_limit}
 use Rattle.oriedit.specs.Run.{Dues, Answers, WritesDue, Ends}
 use Rattle.dialogue.specs.declared.cause.Cause.TheVariants as cause
 use Rattle.dialogue.specs.declared.reply.Reply.TheVariants as reply
@@ -98,7 +99,7 @@ answered Due bytes text held now due came d t (inr w) =
     let P : Status → Type 0 = λ s. Answers Due bytes held now s in subst P (sym w.0) (due, text, t, w.1)
 
 pub ends : (Due : Dues) (bytes : List ℕ) (left held now : Option (List ℕ)) (s : Status) → IsSpent left
-    → length bytes < 2 ^ 24 → Answers Due bytes held now s → Ends Due bytes left held now s
+    → length bytes < input_limit → Answers Due bytes held now s → Ends Due bytes left held now s
 ends Due bytes left held now status.Ok e l a = ((e, l), a)
 ends Due bytes left held now status.FaultsFound e l a = ((e, l), a)
 ends Due bytes left held now status.Refused e l a = ((e, l), a)

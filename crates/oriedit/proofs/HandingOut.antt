@@ -2,18 +2,11 @@
 use Rattle.std.proofs.Common.{◌≡◌, List, [], ◌∷◌, ◌++◌, map, append_assoc, append-nil, refl, sym, ap, subst, ◌∙◌, arith}
 use Rattle.std.specs.Prelude.{Option, Some, None, option_map, Ok, Err}
 use Rattle.std.proofs.lemmas.List.{map-append}
-use Rattle.ports.specs.Doors.{Ends, HasOut, HandsOut, with_finished}
+use Rattle.ports.specs.Doors.{Ends, HandsOut, with_finished}
 use Rattle.oriedit.specs.Connections.{EndSide, Kept, IsServed}
 use Rattle.oriedit.specs.Serving.{AreServed, HandedOut, HasNone, ends_seen}
 use Rattle.oriedit.specs.declared.connection.Served.{Served}
 use Rattle.oriedit.proofs.Laters.{later_served}
-
--- an end that went out can be finished
-pub has_out : {E : Type 0} (F : Type 0) (old mid : Option (Ends E)) (end : E) → HandsOut {E = E} {F = F} old mid (Ok (Some end)) → HasOut mid
-has_out F None None end h = tt
-has_out F None (Some m) end h = absurd h
-has_out F (Some o) None end h = absurd h
-has_out F (Some o) (Some m) end h = let e = h.out in omega (arith, e)
 
 -- one end went out and was finished
 pub handed_one : {E : Type 0} (F : Type 0) (side : E → EndSide) (old mid new : Option (Ends E)) (before after : E)

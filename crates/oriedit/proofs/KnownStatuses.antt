@@ -1,46 +1,13 @@
 -- The statuses of answers are among those that a head can have.
-use Rattle.std.proofs.Common.{refl, lit<}
 use Rattle.dialogue.specs.declared.cause.Cause.{Cause}
 use Rattle.dialogue.specs.declared.cause.Cause.TheVariants as cause
 use Rattle.dialogue.specs.declared.command.Command.{Command}
 use Rattle.dialogue.specs.declared.command.Command.TheVariants as command
 use Rattle.dialogue.specs.declared.reply.Reply.{Reply}
 use Rattle.dialogue.specs.declared.reply.Reply.TheVariants as reply
-use Rattle.api.specs.Statuses.{IsStatus, status_of}
-use Rattle.api.specs.declared.bad.BadWhy.{BadWhy}
-use Rattle.api.specs.declared.bad.BadWhy.TheVariants as why
+use Rattle.api.specs.Statuses.{IsStatus}
+use Rattle.api.proofs.Callers.{is_200, is_201, is_404, is_409, is_422, is_503}
 use Rattle.oriedit.specs.HttpAnswers.{cause_status, done_status, reply_status}
-
-is_200 : IsStatus 200
-is_200 = (0, lit< tt, refl)
-
-pub is_400 : IsStatus 400
-is_400 = (2, lit< tt, refl)
-
-is_404 : IsStatus 404
-is_404 = (3, lit< tt, refl)
-
-is_409 : IsStatus 409
-is_409 = (5, lit< tt, refl)
-
-is_422 : IsStatus 422
-is_422 = (8, lit< tt, refl)
-
-pub is_507 : IsStatus 507
-is_507 = (12, lit< tt, refl)
-
-pub refused_known : (w : BadWhy) → IsStatus (status_of w)
-refused_known why.Head = is_400
-refused_known why.HeadSize = (9, lit< tt, refl)
-refused_known why.Coding = (10, lit< tt, refl)
-refused_known why.Length = is_400
-refused_known why.Route = is_404
-refused_known why.Method = (4, lit< tt, refl)
-refused_known why.Name = is_400
-refused_known why.NoLength = (6, lit< tt, refl)
-refused_known why.BodySize = (7, lit< tt, refl)
-refused_known why.Short = is_400
-refused_known why.Body = is_400
 
 cause_known : (c : Cause) → IsStatus (cause_status c)
 cause_known cause.NoProject = is_404
@@ -55,7 +22,7 @@ cause_known (cause.Cp bad) = is_422
 cause_known (cause.Edit bad) = is_422
 
 done_known : (c : Command) → IsStatus (done_status c)
-done_known (command.New name sheet) = (1, lit< tt, refl)
+done_known (command.New name sheet) = is_201
 done_known command.List = is_200
 done_known (command.Show name) = is_200
 done_known (command.Faults name) = is_200
@@ -74,4 +41,4 @@ reply_known c (reply.Vertex at r) = is_200
 reply_known c (reply.Text bytes) = is_200
 reply_known c (reply.Names names) = is_200
 reply_known c (reply.Refused why) = cause_known why
-reply_known c reply.KeeperFailed = (11, lit< tt, refl)
+reply_known c reply.KeeperFailed = is_503

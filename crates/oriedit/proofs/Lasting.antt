@@ -25,9 +25,5 @@ last_ended [] old new clean e n a = absurd (n refl)
 last_ended (b ∷ rest) old new clean early.WriteFault n a = a
 last_ended (b ∷ rest) old new clean early.NoMemory n a = a
 
-pub length_none : (xs : List ℕ) → length xs ≡ 0 → xs ≡ []
-length_none [] e = refl
-length_none (x ∷ xs) e = absurd (omega (arith, e))
-
 pub some_bytes : (xs : List ℕ) → 0 < length xs → xs ≢ []
 some_bytes xs l e = let n = ap length e in omega (arith, l, n)

@@ -1,22 +1,16 @@
 -- What is said of a keeper whose store is clean at some time holds where it is clean at a later time.
 use Rattle.std.proofs.Common.{ℕ, List, inl, inr}
 use Rattle.std.specs.Prelude.{Option, Some, None, Result, Ok, Err}
-use Rattle.projects.specs.Tables.{Tables}
 use Rattle.dialogue.specs.declared.command.Command.{Command}
 use Rattle.commands.specs.declared.bad.BadText.{BadText}
 use Rattle.api.specs.declared.ask.Ask.{Ask}
 use Rattle.api.specs.declared.ask.AskEnd.{AskEnd}
 use Rattle.api.specs.declared.ask.AskEnd.TheVariants as end
 use Rattle.api.specs.Answers.{all_of}
-use Rattle.oriedit.specs.Script.{KeepsTelling}
 use Rattle.oriedit.specs.HttpAnswers.{HttpAnswer}
 use Rattle.oriedit.specs.Connections.{EndSide, Kept, IsKept, OrNoMemory, ReadDue, AskDue, BytesDue, IsSilent, ServesBytes, IsServed}
 use Rattle.oriedit.specs.declared.connection.Served.{Served}
 use Rattle.oriedit.specs.declared.connection.Served.TheVariants as served
-
-pub later_told : (old new : Option Tables) (C D : Type 0) (H : Tables → Tables → Type 0) → (D → C)
-    → KeepsTelling old C new H → KeepsTelling old D new H
-later_told old new C D H f t = λ before e d. t before e (f d)
 
 module _ (old new : Kept) (C D : Type 0) (f : D → C) where
   pub later_kept : IsKept old C new → IsKept old D new

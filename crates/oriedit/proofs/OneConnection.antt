@@ -4,6 +4,7 @@ use Rattle.std.specs.Prelude.{Option, Some, option_map, Result, Ok, Err}
 use Rattle.ports.specs.Streams.{HasCause, Puts}
 use Rattle.ports.specs.declared.streams.Failed.{Failed}
 use Rattle.ports.specs.declared.stop.NoMemory.{NoMemory}
+use Rattle.ports.specs.Taken.{Gave}
 use Rattle.dialogue.specs.declared.command.Command.{Command}
 use Rattle.dialogue.specs.declared.reply.Reply.{Reply}
 use Rattle.projects.specs.Tables.{Tables}
@@ -15,7 +16,7 @@ use Rattle.api.specs.declared.ask.Ask.{Ask}
 use Rattle.api.specs.declared.ask.AskEnd.TheVariants as end
 use Rattle.api.specs.declared.bad.HttpBad.{HttpBad}
 use Rattle.api.specs.declared.bad.BadWhy.{BadWhy}
-use Rattle.api.specs.Answers.{AskOf, Gave, all_of}
+use Rattle.api.specs.Answers.{AskOf, all_of}
 use Rattle.oriedit.specs.HttpAnswers.{answer_text, wrong_answer, bad_answer, no_memory_answer}
 use Rattle.oriedit.specs.Connections.{Dues, EndSide, end_side, Kept, kept, IsKept, IsDone, OrNoMemory, CommandDue, TextDue, BytesDue, PutsDue, ServesBytes, IsServed, served_as}
 use Rattle.oriedit.proofs.Answered.{still_told, untouched, fails_counted, put_gained, put_part}

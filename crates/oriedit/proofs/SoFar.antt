@@ -1,20 +1,22 @@
 -- A script up to some place.
-use Rattle.std.proofs.Common.{◌≡◌, ℕ, ◌+◌, ◌<◌, ◌≤◌, ◌^◌, length, length-append, take, List, [], ◌++◌, append_assoc, append-nil, refl, sym, ap, subst, ◌∙◌, inl, inr, arith}
+use Rattle.std.proofs.Common.{◌≡◌, ℕ, ◌+◌, ◌<◌, ◌≤◌, length, length-append, take, List, [], ◌++◌, append_assoc, append-nil, refl, sym, ap, subst, ◌∙◌, inl, inr, arith}
 use Rattle.std.specs.Prelude.{Option, Some, None, Ok, Err}
 use Rattle.std.specs.List.{concat}
 use Rattle.std.proofs.lemmas.List.{take-append-le, length-take-le}
 use Rattle.std.proofs.lemmas.List.Elements.{All-nil, All-append}
 use Rattle.ports.specs.Streams.{Takes}
-use Rattle.oriedit.specs.Reading.{Gave, IsSpent}
+use Rattle.ports.specs.Taken.{Gave, IsSpent}
+use Rattle.ports.proofs.callers.Taken.{gave_nothing}
 use Rattle.oriedit.specs.Units.{IsUnit, StandsFirst, AreUnits, last_unit}
 use Rattle.oriedit.specs.Script.{Works, AreAnswered, AreCutOff, DoesSome, ScriptRuns}
 use Rattle.oriedit.specs.Answering.{AnswersUnits, status_of}
 use Rattle.oriedit.specs.Lasting.{AnswersLast}
+use Rattle.oriedit.specs.Limits.{script_limit}
 use Rattle.oriedit.specs.declared.early.Early.{Early}
 use Rattle.oriedit.specs.declared.early.Early.TheVariants as early
 use Rattle.oriedit.specs.declared.status.Status.{Status}
 use Rattle.oriedit.specs.declared.status.Status.TheVariants as status
-use Rattle.oriedit.proofs.Taken.{gave_more}
+use Rattle.oriedit.proofs.Taken.{took_more}
 use Rattle.oriedit.proofs.Joining.{concat_more, answered_more, cut_off_more}
 use Rattle.oriedit.proofs.Answered.{nothing_yet}
 use Rattle.oriedit.proofs.UnitEnds.{nothing_kept, no_feed}
@@ -27,10 +29,6 @@ pub record IsRead (was left : Option (List ℕ)) (line : List ℕ) (taken : ℕ)
   pub count : length bytes ≡ taken
   pub all : AreUnits bytes units line
   pub answered : AreAnswered old clean now units
-
-gave_nothing : (was : Option (List ℕ)) → Gave was was []
-gave_nothing None = tt
-gave_nothing (Some x) = refl
 
 pub nothing_read : (was : Option (List ℕ)) (line : List ℕ) (w : Works) (clean : Type 0) → line ≡ []
     → IsRead was was line 0 w clean w
@@ -79,18 +77,18 @@ some_behind bytes line piece us P Q l f d = record {
 -- a piece was taken, and the script ended at one of its units
 pub ended_at : (was mid left : Option (List ℕ)) (line piece kept : List ℕ) (taken : ℕ) (old now new : Works) (C D : Type 0) (e : Early)
     → (D → C)
-    → (r : IsRead was mid line taken old C now) → Gave was left (r.bytes ++ piece) → taken + length piece ≤ 2 ^ 28 → AnswersUnits (line ++ piece) kept now D new (Err e)
+    → (r : IsRead was mid line taken old C now) → Gave was left (r.bytes ++ piece) → taken + length piece ≤ script_limit → AnswersUnits (line ++ piece) kept now D new (Err e)
     → ScriptRuns was left old D new (status_of e)
 ended_at was mid left line piece kept taken old now new C D early.WriteFault f r g l a =
-    let short : length (r.bytes ++ piece) ≤ 2 ^ 28 = simp length-append (omega (arith, r.count, l)) in
+    let short : length (r.bytes ++ piece) ≤ script_limit = simp length-append (omega (arith, r.count, l)) in
     (r.bytes ++ piece, g, inl (short, some_behind r.bytes line piece r.units (AreCutOff now D new) (AreCutOff old D new) r.all.first (λ vs c. cut_off_more old now new C D f r.units vs r.answered c) a))
 ended_at was mid left line piece kept taken old now new C D early.NoMemory f r g l a =
-    let short : length (r.bytes ++ piece) ≤ 2 ^ 28 = simp length-append (omega (arith, r.count, l)) in
+    let short : length (r.bytes ++ piece) ≤ script_limit = simp length-append (omega (arith, r.count, l)) in
     (r.bytes ++ piece, g, (short, some_behind r.bytes line piece r.units (AreAnswered now D new) (AreAnswered old D new) r.all.first (λ vs c. answered_more old now new C D f r.units vs r.answered c) a))
 
 -- the source has ended, and the last unit was answered
 ended_whole : (was left : Option (List ℕ)) (line : List ℕ) (taken : ℕ) (old now new : Works) (C D : Type 0) (s : Status)
-    → (D → C) → taken < 2 ^ 28 → IsSpent left
+    → (D → C) → taken < script_limit → IsSpent left
     → IsRead was left line taken old C now → AnswersLast line now D new s → ScriptRuns was left old D new s
 ended_whole was left line taken old now new C D status.Ok f l z r a = (
   r.bytes,
@@ -142,7 +140,7 @@ ended_whole was left line taken old now new C D status.TooLong f l z r a = absur
 ended_whole was left line taken old now new C D status.Refused f l z r a = absurd a
 
 pub ended : (was left : Option (List ℕ)) (line rest : List ℕ) (taken : ℕ) (old now new : Works) (C D : Type 0) (s : Status)
-    → (D → C) → taken < 2 ^ 28 → IsSpent left
+    → (D → C) → taken < script_limit → IsSpent left
     → IsRead was left line taken old C now → rest ≡ line → AnswersLast rest now D new s → ScriptRuns was left old D new s
 ended was left line rest taken old now new C D s f l z r e a =
     ended_whole was left line taken old now new C D s f l z r (subst (λ t. AnswersLast t now D new s) e a)
@@ -175,13 +173,6 @@ end_gave E (Some w) (Some x) None bytes a b n z t g = absurd t
 end_gave E (Some w) (Some x) (Some y) bytes a b n z t g =
     g ∙ ap (λ r. bytes ++ r) (t.front ∙ ap (λ k. take k b ++ y) z)
 
-pub end_spent : (E : Type 0) (mid left : Option (List ℕ)) (a b : List ℕ) (n : ℕ) → n ≡ 0 → 0 < length a
-    → Takes {E = E} mid left a b (Ok n) → IsSpent left
-end_spent E None None a b n z l t = tt
-end_spent E None (Some y) a b n z l t = absurd t
-end_spent E (Some x) None a b n z l t = absurd t
-end_spent E (Some x) (Some y) a b n z l t = sym (t.front ∙ ap (λ k. take k b ++ y) z) ∙ t.ends l z
-
 pub read_on : (was mid left : Option (List ℕ)) (line : List ℕ) (taken : ℕ) (old now : Works) (clean : Type 0)
     → (r : IsRead was mid line taken old clean now) → Gave was left r.bytes
     → IsRead was left line taken old clean now
@@ -199,7 +190,7 @@ pub piece_gave : (E : Type 0) (was mid left : Option (List ℕ)) (bytes a b rest
     → n ≤ length b → Gave was mid bytes → Takes {E = E} mid left a b (Ok n)
     → Gave was left (bytes ++ take n (b ++ rest))
 piece_gave E was mid left bytes a b rest n l g t =
-    subst (λ p. Gave was left (bytes ++ p)) (sym (take-append-le n b rest l)) (gave_more E was mid left bytes a b n g t)
+    subst (λ p. Gave was left (bytes ++ p)) (sym (take-append-le n b rest l)) (took_more E was mid left bytes a b n g t)
 
 pub piece_length : (b rest : List ℕ) (n : ℕ) → n ≤ length b → length (take n (b ++ rest)) ≡ n
 piece_length b rest n l = ap length (take-append-le n b rest l) ∙ length-take-le n b l

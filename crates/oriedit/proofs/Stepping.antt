@@ -1,5 +1,5 @@
 -- Commands that were done with their replies, and more after them.
-use Rattle.std.proofs.Common.{◌≡◌, ◌≢◌, ℕ, zero, suc, ◌+◌, ◌≤◌, List, [], ◌∷◌, ◌++◌, length, length-append, append_assoc, refl, sym, ap, subst, ◌∙◌, arith}
+use Rattle.std.proofs.Common.{◌≡◌, ℕ, ◌+◌, List, [], ◌∷◌, ◌++◌, length, length-append, append_assoc, refl, sym, ap, subst, ◌∙◌, arith}
 use Rattle.std.specs.Prelude.{Option, None, Result, Ok, Err}
 use Rattle.ports.specs.declared.stop.NoMemory.{NoMemory}
 use Rattle.dialogue.specs.declared.command.Command.{Command}
@@ -14,7 +14,7 @@ use Rattle.oriedit.specs.Summary.{nothing, plus, of_question}
 use Rattle.oriedit.specs.Generating.{Asked, Steps, StepTables, AreReplied, totals, all_failures, counted_as, question, asked, Kind, Asking, subject}
 use Rattle.oriedit.specs.Counting.{ArePartly, Learns, AreCounted, Counts}
 use Rattle.oriedit.specs.declared.tally.Tally.{Tally}
-use Rattle.oriedit.proofs.Answered.{still_told, untouched, fails_counted}
+use Rattle.oriedit.proofs.Answered.{still_told, untouched, rose_none, fails_counted}
 use Rattle.oriedit.proofs.Joining.{rose_more}
 
 -- steps, and more after them
@@ -49,9 +49,6 @@ replied_more old mid new C D f asks bs rs ss p q = record {
       );
   counted = subst (RoseBy old.faults new.faults) (sym (failures_more rs ss)) (rose_more old.faults mid.faults new.faults (all_failures rs) (all_failures ss) p.counted q.counted);
 }
-
-rose_none : (a b : ℕ) → a ≤ b → RoseBy a b 0
-rose_none a b l = omega (arith, l)
 
 no_steps : (b a : Tables) → a ≡ b → StepTables b [] [] a
 no_steps b a e = λ entries s. (entries, subst (λ t. StandFor t entries) (sym e) s, refl)

@@ -2,11 +2,12 @@
 use Rattle.std.specs.Prelude.{◌≡◌, ℕ, ◌≤◌, ◌⊎◌, List, [], Option, Some, None, option_map, Result, Ok, Err}
 use Rattle.ports.specs.Streams.{Rose, Puts}
 use Rattle.ports.specs.declared.streams.Failed.{Failed}
+use Rattle.ports.specs.Taken.{Gave}
 use Rattle.dialogue.specs.declared.command.Command.{Command}
 use Rattle.dialogue.specs.declared.reply.Reply.{Reply}
 use Rattle.commands.specs.Lines.{ReadsCommand}
 use Rattle.commands.specs.declared.bad.BadText.{BadText}
-use Rattle.api.specs.Answers.{AskOf, Gave, all_of}
+use Rattle.api.specs.Answers.{AskOf, all_of}
 use Rattle.api.specs.declared.ask.Ask.{Ask}
 use Rattle.api.specs.declared.ask.AskEnd.{AskEnd}
 use Rattle.api.specs.declared.ask.AskEnd.TheVariants as end

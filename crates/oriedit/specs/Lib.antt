@@ -1,4 +1,5 @@
 pub mod StatusNumber
+pub mod Limits
 pub mod Reading
 pub mod ReplyText
 pub mod CutText

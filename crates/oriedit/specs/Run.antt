@@ -1,6 +1,7 @@
 -- A run of the program: what it takes from its source, what it writes, and how it ends.
-use Rattle.std.specs.Prelude.{◌≡◌, ℕ, ◌≤◌, ◌<◌, ◌^◌, ◌⊎◌, List, length, Option}
-use Rattle.oriedit.specs.Reading.{Gave, IsSpent}
+use Rattle.std.specs.Prelude.{◌≡◌, ℕ, ◌≤◌, ◌<◌, ◌⊎◌, List, length, Option}
+use Rattle.ports.specs.Taken.{Gave, IsSpent}
+use Rattle.oriedit.specs.Limits.{input_limit}
 use Rattle.oriedit.specs.Outputs.{Gained, GainedFront}
 use Rattle.words.specs.Words.{Asks, usage_text}
 use Rattle.words.specs.Tasks.{Task}
@@ -38,9 +39,9 @@ Answers Due bytes held now status.KeeperFault = ⊥
 Answers Due bytes held now status.DoorFault = ⊥
 Answers Due bytes held now status.TooLong = ⊥
 
--- the whole input was read, and is below the limit of 2 ^ 24 bytes
+-- the whole input was read, and is below the limit
 abbrev pub IsWhole : List ℕ → Option (List ℕ) → Type 0
-IsWhole bytes left = IsSpent left × (length bytes < 2 ^ 24)
+IsWhole bytes left = IsSpent left × (length bytes < input_limit)
 
 -- how a run of a command that answers its whole input ends after these bytes were taken
 abbrev pub Ends : Dues → List ℕ → Option (List ℕ) → Option (List ℕ) → Option (List ℕ) → Status → Type 0
@@ -50,9 +51,9 @@ Ends Due bytes left held now status.FaultsFound =
 Ends Due bytes left held now status.Refused = IsWhole bytes left × Answers Due bytes held now status.Refused
 Ends Due bytes left held now status.WriteFault =
     IsWhole bytes left × Answers Due bytes held now status.WriteFault
-Ends Due bytes left held now status.NoMemory = (length bytes ≤ 2 ^ 24) × (now ≡ held)
-Ends Due bytes left held now status.ReadFault = (length bytes < 2 ^ 24) × (now ≡ held)
-Ends Due bytes left held now status.TooLong = (length bytes ≡ 2 ^ 24) × (now ≡ held)
+Ends Due bytes left held now status.NoMemory = (length bytes ≤ input_limit) × (now ≡ held)
+Ends Due bytes left held now status.ReadFault = (length bytes < input_limit) × (now ≡ held)
+Ends Due bytes left held now status.TooLong = (length bytes ≡ input_limit) × (now ≡ held)
 Ends Due bytes left held now status.Usage = ⊥
 Ends Due bytes left held now status.KeeperFault = ⊥
 Ends Due bytes left held now status.DoorFault = ⊥

@@ -4,7 +4,8 @@ use Rattle.std.specs.Prelude.{Some}
 use Rattle.std.specs.List.{concat}
 use Rattle.ports.specs.Streams.{IsFront}
 use Rattle.projects.specs.Tables.{Tables, IsTables}
-use Rattle.oriedit.specs.Reading.{Gave, IsSpent}
+use Rattle.ports.specs.Taken.{Gave, IsSpent}
+use Rattle.oriedit.specs.Limits.{script_limit}
 use Rattle.oriedit.specs.Outputs.{Gained}
 use Rattle.oriedit.specs.Units.{AreUnits, StandsFirst, last_unit}
 use Rattle.oriedit.specs.Turns.{TurnTables}
@@ -83,19 +84,19 @@ pub record DoesSome (bytes : List ℕ) (Done : List (List ℕ) → Type 0) : Typ
   pub all : StandsFirst bytes units rest
   pub done : Done units
 
--- How a script ends after these bytes were taken. The limit is 2 ^ 28 bytes.
+-- How a script ends after these bytes were taken.
 abbrev pub ScriptEnds : List ℕ → Option (List ℕ) → Works → Type 0 → Works → Status → Type 0
 ScriptEnds bytes left old clean new status.Ok =
-    (length bytes < 2 ^ 28) × DoesAll bytes left (AreAnswered old clean new)
+    (length bytes < script_limit) × DoesAll bytes left (AreAnswered old clean new)
 ScriptEnds bytes left old clean new status.ReadFault =
-    (length bytes < 2 ^ 28) × DoesWhole bytes (AreAnswered old clean new)
+    (length bytes < script_limit) × DoesWhole bytes (AreAnswered old clean new)
 ScriptEnds bytes left old clean new status.TooLong =
-    (length bytes ≡ 2 ^ 28) × DoesWhole bytes (AreAnswered old clean new)
+    (length bytes ≡ script_limit) × DoesWhole bytes (AreAnswered old clean new)
 ScriptEnds bytes left old clean new status.WriteFault =
-    ((length bytes ≤ 2 ^ 28) × DoesSome bytes (AreCutOff old clean new))
-    ⊎ ((length bytes < 2 ^ 28) × DoesAll bytes left (AreCutOff old clean new))
+    ((length bytes ≤ script_limit) × DoesSome bytes (AreCutOff old clean new))
+    ⊎ ((length bytes < script_limit) × DoesAll bytes left (AreCutOff old clean new))
 ScriptEnds bytes left old clean new status.NoMemory =
-    (length bytes ≤ 2 ^ 28) × DoesSome bytes (AreAnswered old clean new)
+    (length bytes ≤ script_limit) × DoesSome bytes (AreAnswered old clean new)
 ScriptEnds bytes left old clean new status.FaultsFound = ⊥
 ScriptEnds bytes left old clean new status.Usage = ⊥
 ScriptEnds bytes left old clean new status.KeeperFault = ⊥

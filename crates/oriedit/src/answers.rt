@@ -33,7 +33,7 @@ pub(crate) fn put_reply<W: Sink>(
 }
 
 /// Writes the answer to a text that is no command. It takes no memory.
-#[tactic(auto, using(crate::proofs::KnownStatuses::is_400))]
+#[tactic(auto, using(api::proofs::Callers::is_400))]
 pub(crate) fn put_wrong<W: Sink>(sink: &mut W, bad: &BadText) -> Result<(), Failed>
     ensures bytes { Puts (W.held sink.old) (W.held sink.new) (answer_text (wrong_answer bad.now)) result }
     ensures cause { HasCause (W.faults sink.old) (W.faults sink.new) result }
@@ -56,7 +56,7 @@ pub(crate) fn put_refused<W: Sink>(sink: &mut W, bad: &HttpBad) -> Result<(), Fa
 }
 
 /// Writes that there is no memory. It takes none.
-#[tactic(auto, using(crate::proofs::KnownStatuses::is_507))]
+#[tactic(auto, using(api::proofs::Callers::is_507))]
 pub(crate) fn put_no_memory<W: Sink>(sink: &mut W) -> Result<(), Failed>
     ensures bytes { Puts (W.held sink.old) (W.held sink.new) (answer_text no_memory_answer) result }
     ensures cause { HasCause (W.faults sink.old) (W.faults sink.new) result }

@@ -16,7 +16,9 @@ use std::alloc::Global;
 use subdivide::scratch;
 
 const USAGE: &[u8] =
-    b"usage: oriedit cut\n       oriedit check [--d N] [--k N] [--tol N] [--w N] [--h N]\n       oriedit script [--keep PATH]\n       oriedit generate SEED COUNT\n       oriedit serve PORT [--connections N] [--keep PATH]\nnumbers are plain decimal digits\n";
+    b"usage: oriedit cut\n       oriedit check [--d N] [--k N] [--tol N] [--w N] [--h N]\n       \
+        oriedit script [--keep PATH]\n       oriedit generate SEED COUNT\n       \
+        oriedit serve PORT [--connections N] [--keep PATH]\nnumbers are plain decimal digits\n";
 
 /// Writes the usage text.
 pub fn usage<W: Sink>(sink: &mut W) -> Status

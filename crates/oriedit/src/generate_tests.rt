@@ -34,16 +34,16 @@ fn gives(alloc: Global, words: &[&str], text: &[u8]) -> Result<bool, Fail> {
 
 #[test]
 fn no_turn_leaves_the_blank_square(rt: HostRuntime) -> Result<(), Fail> {
-    let text =
-        b"generate 0 0\ndone 0\nrefused 0\nkeeper-failed 0\nfaults-seen 0\nfinal creases 0 vertices 4 edges 4 faults 0\n";
+    let text = b"generate 0 0\ndone 0\nrefused 0\nkeeper-failed 0\nfaults-seen 0\n\
+            final creases 0 vertices 4 edges 4 faults 0\n";
     assert!(rt; gives(rt.alloc(), &["generate", "0", "0"], text)?);
     Ok(())
 }
 
 #[test]
 fn the_one_turn_of_seed_one_undoes_nothing(rt: HostRuntime) -> Result<(), Fail> {
-    let text =
-        b"generate 1 1\ndone 0\nrefused 1\nkeeper-failed 0\nfaults-seen 0\nfinal creases 0 vertices 4 edges 4 faults 0\n";
+    let text = b"generate 1 1\ndone 0\nrefused 1\nkeeper-failed 0\nfaults-seen 0\n\
+            final creases 0 vertices 4 edges 4 faults 0\n";
     assert!(rt; gives(rt.alloc(), &["generate", "1", "1"], text)?);
     Ok(())
 }

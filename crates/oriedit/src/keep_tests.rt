@@ -1,5 +1,4 @@
 //! Scripts over projects in tables of SQL.
-
 use crate::{Status, script};
 use ports::{MemSink, MemSource};
 use projects::Keeper;
@@ -21,9 +20,11 @@ fn answers(alloc: Global, input: &[u8], text: &[u8]) -> Result<bool, Fail> {
 #[test]
 fn an_undo_and_a_redo_in_tables(rt: HostRuntime) -> Result<(), Fail> {
     let input =
-        b"new sq\ndraw sq M 0,1/2 1,1/2\ndraw sq V 1/4,1/2 3/4,1/2\nundo sq\npattern sq\nredo sq\npattern sq\n";
+        b"new sq\ndraw sq M 0,1/2 1,1/2\ndraw sq V 1/4,1/2 3/4,1/2\nundo sq\npattern sq\nredo sq\n\
+            pattern sq\n";
     let text =
-        b"done 0\ndone 1\ndone 2\ndone 3\ntext 2\nq2 1\nM 0,1/2 1,1/2\ndone 4\ntext 4\nq2 1\nM 0,1/2 1/4,1/2\nV 1/4,1/2 3/4,1/2\nM 3/4,1/2 1,1/2\n";
+        b"done 0\ndone 1\ndone 2\ndone 3\ntext 2\nq2 1\nM 0,1/2 1,1/2\ndone 4\ntext 4\nq2 1\n\
+            M 0,1/2 1/4,1/2\nV 1/4,1/2 3/4,1/2\nM 3/4,1/2 1,1/2\n";
     assert!(rt; answers(rt.alloc(), input, text)?);
     Ok(())
 }
@@ -38,10 +39,11 @@ fn a_change_takes_the_future_out_of_tables(rt: HostRuntime) -> Result<(), Fail> 
 
 #[test]
 fn refusals_over_tables(rt: HostRuntime) -> Result<(), Fail> {
-    let input =
-        b"new sq\ndraw sq M 0,0 1,1\nextend sq V 0,1/2 0\npattern sq\nextend sq V 0,1/2 0\nextend sq V 0,1/2 8\nnew sq\nlist\n";
+    let input = b"new sq\ndraw sq M 0,0 1,1\nextend sq V 0,1/2 0\npattern sq\nextend sq V 0,1/2 0\n\
+            extend sq V 0,1/2 8\nnew sq\nlist\n";
     let text =
-        b"done 0\ndone 1\ndone 2\ntext 3\nq2 1\nM 0,0 1,1\nV 0,1/2 1/2,1/2\nrefused Covered\nrefused AtBorder\nrefused Exists\nnames 1\nsq\n";
+        b"done 0\ndone 1\ndone 2\ntext 3\nq2 1\nM 0,0 1,1\nV 0,1/2 1/2,1/2\nrefused Covered\n\
+            refused AtBorder\nrefused Exists\nnames 1\nsq\n";
     assert!(rt; answers(rt.alloc(), input, text)?);
     Ok(())
 }

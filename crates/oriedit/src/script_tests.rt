@@ -2,7 +2,7 @@
 ghost use Rattle.std.specs.Prelude.{◌≤◌};
 
 use crate::{Status, run};
-use ports::{MemDoor, MemSink, MemSource};
+use ports::{MemDoor, MemSink, MemSource, Source};
 use projects::MemKeeper;
 use std::alloc::Global;
 use std::test::Fail;
@@ -63,9 +63,11 @@ fn crossing_mountains_are_a_fault_until_one_is_a_valley(rt: HostRuntime) -> Resu
     let text = b"done 0\ndone 1\ndone 2\nfaults 2 1\n! maekawa 1/2,1/2 mountains 4 valleys 0\n";
     assert!(rt; answers(alloc, input, text)?);
     let input =
-        b"new sq\ndraw sq M 0,0 1,1\ndraw sq M 0,1 1,0\nfaults sq\nrecolour sq V 1/2,1/2 1,0\nvertex sq 1/2,1/2\nfaults sq\n";
+        b"new sq\ndraw sq M 0,0 1,1\ndraw sq M 0,1 1,0\nfaults sq\nrecolour sq V 1/2,1/2 1,0\n\
+            vertex sq 1/2,1/2\nfaults sq\n";
     let text =
-        b"done 0\ndone 1\ndone 2\nfaults 2 1\n! maekawa 1/2,1/2 mountains 4 valleys 0\ndone 3\nvertex 1/2,1/2 rays 2M 6M 10M 14V passed 1 2 3 0\nfaults 3 0\n";
+        b"done 0\ndone 1\ndone 2\nfaults 2 1\n! maekawa 1/2,1/2 mountains 4 valleys 0\ndone 3\n\
+            vertex 1/2,1/2 rays 2M 6M 10M 14V passed 1 2 3 0\nfaults 3 0\n";
     assert!(rt; answers(alloc, input, text)?);
     Ok(())
 }
@@ -77,9 +79,11 @@ fn a_rabbit_ear_folds_and_two_changes_block_it(rt: HostRuntime) -> Result<(), Fa
     let text = b"done 0\ndone 1\nvertex 2-1r/2,2-1r/2 rays 5M 10M 12V 15M passed 3 2 1 0\n";
     assert!(rt; answers(alloc, input, text)?);
     let input =
-        b"new sq\nrabbit-ear sq M 0,0 1,0 0,1\nvertex sq 2-1r/2,2-1r/2\nrecolour sq V 0,1 2-1r/2,2-1r/2\nrecolour sq M 2-1r/2,0 2-1r/2,2-1r/2\nfaults sq\n";
+        b"new sq\nrabbit-ear sq M 0,0 1,0 0,1\nvertex sq 2-1r/2,2-1r/2\nrecolour sq V 0,1 2-1r/2,2-1r/2\n\
+            recolour sq M 2-1r/2,0 2-1r/2,2-1r/2\nfaults sq\n";
     let text =
-        b"done 0\ndone 1\nvertex 2-1r/2,2-1r/2 rays 5M 10M 12V 15M passed 3 2 1 0\ndone 2\ndone 3\nfaults 3 1\n! blocked 2-1r/2,2-1r/2 from 10 to 12 angle 2 count 1\n";
+        b"done 0\ndone 1\nvertex 2-1r/2,2-1r/2 rays 5M 10M 12V 15M passed 3 2 1 0\ndone 2\ndone 3\n\
+            faults 3 1\n! blocked 2-1r/2,2-1r/2 from 10 to 12 angle 2 count 1\n";
     assert!(rt; answers(alloc, input, text)?);
     Ok(())
 }
@@ -90,12 +94,15 @@ fn edits_undone_and_redone_give_the_pattern_back(rt: HostRuntime) -> Result<(), 
     let input =
         b"new sq\ndraw sq M 0,1/2 1,1/2\ndraw sq V 1/4,1/2 3/4,1/2\npattern sq\nundo sq\npattern sq\n";
     let text =
-        b"done 0\ndone 1\ndone 2\ntext 4\nq2 1\nM 0,1/2 1/4,1/2\nV 1/4,1/2 3/4,1/2\nM 3/4,1/2 1,1/2\ndone 3\ntext 2\nq2 1\nM 0,1/2 1,1/2\n";
+        b"done 0\ndone 1\ndone 2\ntext 4\nq2 1\nM 0,1/2 1/4,1/2\nV 1/4,1/2 3/4,1/2\nM 3/4,1/2 1,1/2\n\
+            done 3\ntext 2\nq2 1\nM 0,1/2 1,1/2\n";
     assert!(rt; answers(alloc, input, text)?);
     let input =
-        b"new sq\ndraw sq M 0,1/2 1,1/2\ndraw sq V 1/4,1/2 3/4,1/2\npattern sq\nundo sq\npattern sq\nredo sq\ndraw sq V 1/4,1/2 3/4,1/2\n";
+        b"new sq\ndraw sq M 0,1/2 1,1/2\ndraw sq V 1/4,1/2 3/4,1/2\npattern sq\nundo sq\npattern sq\n\
+            redo sq\ndraw sq V 1/4,1/2 3/4,1/2\n";
     let text =
-        b"done 0\ndone 1\ndone 2\ntext 4\nq2 1\nM 0,1/2 1/4,1/2\nV 1/4,1/2 3/4,1/2\nM 3/4,1/2 1,1/2\ndone 3\ntext 2\nq2 1\nM 0,1/2 1,1/2\ndone 4\nrefused NoChange\n";
+        b"done 0\ndone 1\ndone 2\ntext 4\nq2 1\nM 0,1/2 1/4,1/2\nV 1/4,1/2 3/4,1/2\nM 3/4,1/2 1,1/2\n\
+            done 3\ntext 2\nq2 1\nM 0,1/2 1,1/2\ndone 4\nrefused NoChange\n";
     assert!(rt; answers(alloc, input, text)?);
     let input =
         b"new sq\ndraw sq M 0,0 1,1/3\ndraw sq M 0,0 0,0\ndraw sq M 0,0 2,0\ndraw sq M 0,0 1,0\n";
@@ -108,8 +115,8 @@ fn edits_undone_and_redone_give_the_pattern_back(rt: HostRuntime) -> Result<(), 
 #[test]
 fn refusals_change_nothing(rt: HostRuntime) -> Result<(), Fail> {
     let alloc = rt.alloc();
-    let input =
-        b"new sq\ndraw sq A 0,1/1048576 1,1/1048576\ndraw sq A 0,1/1048577 1,1/1048577\ndraw sq A 0,2/4 1,1/2\n";
+    let input = b"new sq\ndraw sq A 0,1/1048576 1,1/1048576\ndraw sq A 0,1/1048577 1,1/1048577\n\
+            draw sq A 0,2/4 1,1/2\n";
     let text = b"done 0\ndone 1\nrange 11\nsyntax 11\n";
     assert!(rt; answers(alloc, input, text)?);
     let input = b"new sq\ndraw sq M 0,1/1048576 1048575/1048576,1\ndraw sq M 0,1 1,0\n";
@@ -119,9 +126,10 @@ fn refusals_change_nothing(rt: HostRuntime) -> Result<(), Fail> {
     let text = b"done 0\nrefused NothingToUndo\ndone 1\ndone 2\ndone 3\nrefused NothingToRedo\n";
     assert!(rt; answers(alloc, input, text)?);
     let input =
-        b"new sq\ndraw sq A 0,1/2 1/2,1/2\nvertex sq 0,0\nvertex sq 1/2,1/2\nvertex sq 1/3,1/3\nnew sq\nlist\nshow no\n";
-    let text =
-        b"done 0\ndone 1\nvertex 0,0 border\nvertex 1/2,1/2 rays plain\nrefused NoVertex\nrefused Exists\nnames 1\nsq\nrefused NoProject\n";
+        b"new sq\ndraw sq A 0,1/2 1/2,1/2\nvertex sq 0,0\nvertex sq 1/2,1/2\nvertex sq 1/3,1/3\nnew sq\n\
+            list\nshow no\n";
+    let text = b"done 0\ndone 1\nvertex 0,0 border\nvertex 1/2,1/2 rays plain\nrefused NoVertex\n\
+            refused Exists\nnames 1\nsq\nrefused NoProject\n";
     assert!(rt; answers(alloc, input, text)?);
     Ok(())
 }
@@ -130,18 +138,21 @@ fn refusals_change_nothing(rt: HostRuntime) -> Result<(), Fail> {
 fn creases_that_do_not_run_through(rt: HostRuntime) -> Result<(), Fail> {
     let alloc = rt.alloc();
     let input =
-        b"new sq\ndraw sq M 0,1/2 1/2,1/2\nfaults sq\ndraw sq M 1/2,1/2 1,1/2\ndraw sq A 1/2,0 1/2,1\nvertex sq 1/2,1/2\n";
+        b"new sq\ndraw sq M 0,1/2 1/2,1/2\nfaults sq\ndraw sq M 1/2,1/2 1,1/2\ndraw sq A 1/2,0 1/2,1\n\
+            vertex sq 1/2,1/2\n";
     let text =
-        b"done 0\ndone 1\nfaults 1 1\n! kawasaki 1/2,1/2 even 16 odd 0 rays 1\ndone 2\ndone 3\nvertex 1/2,1/2 rays 0M 8M passed 1 0\n";
+        b"done 0\ndone 1\nfaults 1 1\n! kawasaki 1/2,1/2 even 16 odd 0 rays 1\ndone 2\ndone 3\n\
+            vertex 1/2,1/2 rays 0M 8M passed 1 0\n";
     assert!(rt; answers(alloc, input, text)?);
     let input = b"new sq\nshow sq";
     let text =
         b"done 0\nshown 0 4 4\nv 0,0\nv 0,1\nv 1,0\nv 1,1\ne 0 1 B\ne 0 2 B\ne 1 3 B\ne 2 3 B\n";
     assert!(rt; answers(alloc, input, text)?);
-    let input =
-        b"new sq\ndraw sq M 0,0 1,1\nextend sq V 0,1/2 0\npattern sq\nextend sq V 0,1/2 0\nextend sq V 0,1/2 8\n";
+    let input = b"new sq\ndraw sq M 0,0 1,1\nextend sq V 0,1/2 0\npattern sq\nextend sq V 0,1/2 0\n\
+            extend sq V 0,1/2 8\n";
     let text =
-        b"done 0\ndone 1\ndone 2\ntext 3\nq2 1\nM 0,0 1,1\nV 0,1/2 1/2,1/2\nrefused Covered\nrefused AtBorder\n";
+        b"done 0\ndone 1\ndone 2\ntext 3\nq2 1\nM 0,0 1,1\nV 0,1/2 1/2,1/2\nrefused Covered\n\
+            refused AtBorder\n";
     assert!(rt; answers(alloc, input, text)?);
     Ok(())
 }
@@ -150,9 +161,10 @@ fn creases_that_do_not_run_through(rt: HostRuntime) -> Result<(), Fail> {
 fn bisectors_and_mirrors(rt: HostRuntime) -> Result<(), Fail> {
     let alloc = rt.alloc();
     let input =
-        b"new sq\nbisect sq V 0,0 0 4\nbisect sq M 0,0 0 2\npattern sq\nbisect sq M 0,0 0 1\nbisect sq M 0,0 0 3\n";
-    let text =
-        b"done 0\ndone 1\ndone 2\ntext 3\nq2 1\nM 0,0 1,-1+1r\nV 0,0 1,1\nrefused OddAngle\nrefused NoRay 3\n";
+        b"new sq\nbisect sq V 0,0 0 4\nbisect sq M 0,0 0 2\npattern sq\nbisect sq M 0,0 0 1\n\
+            bisect sq M 0,0 0 3\n";
+    let text = b"done 0\ndone 1\ndone 2\ntext 3\nq2 1\nM 0,0 1,-1+1r\nV 0,0 1,1\nrefused OddAngle\n\
+            refused NoRay 3\n";
     assert!(rt; answers(alloc, input, text)?);
     let input =
         b"new sq\ndraw sq M 0,0 1/2,1/2\nmirror sq 1/2,0 4\npattern sq\nmirror sq 1/2,0 4\n";
@@ -193,9 +205,11 @@ fn a_given_rev_has_to_be_the_kept_one(rt: HostRuntime) -> Result<(), Fail> {
 fn lines_that_are_no_commands_name_their_columns(rt: HostRuntime) -> Result<(), Fail> {
     let alloc = rt.alloc();
     let input =
-        b"\n  # a comment\nnwe sq\nnew\nnew sq 2\nnew sq 9 1\nnew sq\r\ndraw sq M 0,0 1,1 1\nvertex sq 1/1048577,0\nvertex SQ 1/1048577,0\nimport sq\n\0\nlist";
+        b"\n  # a comment\nnwe sq\nnew\nnew sq 2\nnew sq 9 1\nnew sq\r\ndraw sq M 0,0 1,1 1\n\
+            vertex sq 1/1048577,0\nvertex SQ 1/1048577,0\nimport sq\n\0\nlist";
     let text =
-        b"syntax 1\nsyntax 4\nsyntax 9\nsyntax 8\ndone 0\nsyntax 19\nrange 11\nsyntax 8\nsyntax 10\nsyntax 1\nnames 1\nsq\n";
+        b"syntax 1\nsyntax 4\nsyntax 9\nsyntax 8\ndone 0\nsyntax 19\nrange 11\nsyntax 8\nsyntax 10\n\
+            syntax 1\nnames 1\nsq\n";
     assert!(rt; answers(alloc, input, text)?);
     Ok(())
 }
@@ -234,6 +248,26 @@ fn a_read_fault_leaves_the_unfinished_line(rt: HostRuntime) -> Result<(), Fail> 
     )?;
     assert_eq!(rt; status, Status::ReadFault);
     assert_eq!(rt; sink.bytes()[..], b"done 0\n"[..]);
+    Ok(())
+}
+
+#[test]
+fn no_take_follows_one_that_failed(rt: HostRuntime) -> Result<(), Fail> {
+    let alloc = rt.alloc();
+    let input = b"new sq\nnew b".to_vec(alloc)?;
+    // The second call fails, and the third one would too.
+    let mut source = MemSource::new(input, 8, [2u64, 3].to_vec(alloc)?);
+    let (status, _sink) = script_of(
+        alloc,
+        &mut source,
+        Vec::new(alloc),
+        Vec::new(alloc),
+        Vec::new(alloc),
+    )?;
+    assert_eq!(rt; status, Status::ReadFault);
+    let mut room = [0u8; 8];
+    assert!(rt; source.take(&mut room).is_err());
+    assert!(rt; source.take(&mut room) == Ok(4));
     Ok(())
 }
 
@@ -329,7 +363,8 @@ fn an_import_draws_its_lines_in_one_step(rt: HostRuntime) -> Result<(), Fail> {
 fn an_import_on_a_wide_sheet(rt: HostRuntime) -> Result<(), Fail> {
     let alloc = rt.alloc();
     let input =
-        b"new sq 2 1\ndraw sq M 1,0 1,1\ndraw sq M 0,0 2,2\npattern sq\nimport sq 64 128 1000 1\n3 -200 -200 200 200\n";
+        b"new sq 2 1\ndraw sq M 1,0 1,1\ndraw sq M 0,0 2,2\npattern sq\nimport sq 64 128 1000 1\n\
+            3 -200 -200 200 200\n";
     let text = b"done 0\ndone 1\nrefused Outside\ntext 2\nq2 2 2 1\nM 1,0 1,1\nimported 2 1 0\n";
     assert!(rt; answers(alloc, input, text)?);
     Ok(())

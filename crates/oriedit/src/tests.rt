@@ -75,7 +75,8 @@ fn creases_of_slanted_directions_meet_exactly(rt: HostRuntime) -> Result<(), Fai
 fn a_crease_where_a_square_would_end_is_inside_a_larger_sheet(rt: HostRuntime) -> Result<(), Fail> {
     let input = b"q2 2 2 1\nM 1,0 1,1\n";
     let text =
-        b"shown 0 6 7\nv 0,0\nv 0,1\nv 1,0\nv 1,1\nv 2,0\nv 2,1\ne 0 1 B\ne 0 2 B\ne 1 3 B\ne 2 3 M\ne 2 4 B\ne 3 5 B\ne 4 5 B\n";
+        b"shown 0 6 7\nv 0,0\nv 0,1\nv 1,0\nv 1,1\nv 2,0\nv 2,1\ne 0 1 B\ne 0 2 B\ne 1 3 B\ne 2 3 M\n\
+            e 2 4 B\ne 3 5 B\ne 4 5 B\n";
     assert!(rt; gives(rt.alloc(), input, Status::Ok, text)?);
     Ok(())
 }

@@ -3,12 +3,12 @@ use Rattle.std.specs.Prelude.{Ok, Err, option_map}
 use Rattle.ports.specs.Streams.{Puts}
 use Rattle.api.specs.HeadText.{head_text}
 use Rattle.api.specs.Statuses.{IsStatus, status_of, bad_text}
-use Rattle.oriedit.proofs.KnownStatuses.{refused_known}
+use Rattle.api.proofs.Callers.{status_is_known}
 use Rattle.oriedit.proofs.TwoPuts.{put_both, put_failed, head_is}
 use Rattle.oriedit.proofs.answers.put_refused.Goals as goal
 
 pub write_head-requires : goal.write_head-requires
-write_head-requires g c = subst IsStatus (sym c.status.ensures) (refused_known c.args.bad.now.why)
+write_head-requires g c = subst IsStatus (sym c.status.ensures) (status_is_known c.args.bad.now.why)
 
 pub returns-in_err-write_head-clause-bytes : goal.returns-in_err-write_head-clause-bytes
 returns-in_err-write_head-clause-bytes g c =

@@ -1,5 +1,5 @@
 use Rattle.std.proofs.Common.{◌≡◌, ◌≤◌, ◌-◌, vec_len}
-use Rattle.oriedit.specs.Reading.{Gave}
+use Rattle.ports.specs.Taken.{Gave}
 use Rattle.oriedit.proofs.reading.read_all.Given as goal
 
 abbrev pub invariant-loop-buf : goal.invariant-loop-buf

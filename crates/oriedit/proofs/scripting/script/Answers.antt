@@ -1,8 +1,8 @@
 use Rattle.std.proofs.Common.{rules, ◌≡◌, ◌≤◌, ◌<◌, ◌++◌, ◌+◌, length, take, drop, refl, sym, subst, ◌∙◌, arith}
 use Rattle.oriedit.specs.Script.{ScriptRuns}
-use Rattle.oriedit.proofs.Taken.{takes_at_most}
+use Rattle.ports.proofs.callers.Taken.{take_within, take_spent}
 use Rattle.oriedit.proofs.UnitEnds.{nothing_kept}
-use Rattle.oriedit.proofs.SoFar.{nothing_read, more_read, ended_at, ended, nothing_done, end_gave, end_spent, read_on, piece_gave, piece_length}
+use Rattle.oriedit.proofs.SoFar.{nothing_read, more_read, ended_at, ended, nothing_done, end_gave, read_on, piece_gave, piece_length}
 use Rattle.oriedit.proofs.scripting.script.Goals as goal
 
 pub returns-in_default-clause-script : goal.returns-in_default-clause-script
@@ -28,14 +28,14 @@ returns-in-Ok-eq0-clause-script g c =
     let none : c.in-Ok-eq0.field-0 ≡ 0 = search rules in
     let room : 0 < length (take c.min-room.result c.loop-taken.block) = search rules in
     let gave = end_gave _ _ _ _ r.bytes _ _ c.in-Ok-eq0.field-0 none c.in-Ok-eq0.ensures.bytes r.gave in
-    ended _ _ _ _ _ _ _ _ _ _ c.answer_last.result c.answer_last.ensures.keeper_clean c.loop-taken-test.true (end_spent _ _ _ _ _ c.in-Ok-eq0.field-0 none room c.in-Ok-eq0.ensures.bytes)
+    ended _ _ _ _ _ _ _ _ _ _ c.answer_last.result c.answer_last.ensures.keeper_clean c.loop-taken-test.true (take_spent _ _ _ _ _ c.in-Ok-eq0.field-0 c.in-Ok-eq0.ensures.bytes room none)
     (read_on _ _ _ _ _ _ _ _ r gave)
     c.deref.ensures.value c.answer_last.ensures.last
 
 pub returns-in-Err-answer_units-clause-script : goal.returns-in-Err-answer_units-clause-script
 returns-in-Err-answer_units-clause-script g c =
     let r = c.loop-taken.invariant.so_far in
-    let given = takes_at_most _ _ _ _ _ _ c.in-Ok-take.ensures.bytes in
+    let given = take_within _ _ _ _ _ _ c.in-Ok-take.ensures.bytes in
     let fits : c.in-Ok-take.count ≤ length c.take.new.buf = search (rules, given) in
     let long = piece_length c.take.new.buf (drop c.min-room.result c.loop-taken.block) c.in-Ok-take.count fits in
     let gave = piece_gave _ _ _ _ r.bytes _ c.take.new.buf (drop c.min-room.result c.loop-taken.block) c.in-Ok-take.count fits r.gave c.in-Ok-take.ensures.bytes in
@@ -45,7 +45,7 @@ returns-in-Err-answer_units-clause-script g c =
 pub loop-taken-preserved : goal.loop-taken-preserved
 loop-taken-preserved g c =
     let r = c.loop-taken.invariant.so_far in
-    let given = takes_at_most _ _ _ _ _ _ c.in-Ok-take.ensures.bytes in
+    let given = take_within _ _ _ _ _ _ c.in-Ok-take.ensures.bytes in
     let fits : c.in-Ok-take.count ≤ length c.take.new.buf = search (rules, given) in
     let rest = drop c.min-room.result c.loop-taken.block in
     let long = piece_length c.take.new.buf rest c.in-Ok-take.count fits in
