@@ -6,7 +6,8 @@ use Rattle.ports.specs.declared.stop.Stop.TheVariants as stop
 use Rattle.sheet.specs.Pattern.{ExactCrease}
 use Rattle.edits.specs.Drafts.{ExactDraft}
 use Rattle.edits.specs.Rules.{Unless, Then}
-use Rattle.edits.specs.Answers.{Refuses, Answers}
+use Rattle.ports.specs.Stops.{Refuses}
+use Rattle.edits.specs.Answers.{Answers}
 use Rattle.edits.specs.declared.refusal.EditBad.{EditBad}
 
 -- the last step gives the value

@@ -1,12 +1,11 @@
 -- Steps over a list, one element after another, as a loop makes them.
-use Rattle.std.proofs.Common.{◌≡◌, ℕ, zero, suc, ◌+◌, ◌<◌, ◌≤◌, List, [], ◌∷◌, ◌++◌, take, length, get_or, refl, ap, subst, inl, inr, arith}
+use Rattle.std.proofs.Common.{◌≡◌, ℕ, zero, suc, ◌+◌, ◌<◌, List, [], ◌∷◌, ◌++◌, take, length, get_or, refl, ap, subst, inl, inr, arith}
 use Rattle.std.specs.Prelude.{Result, Ok, Err}
-use Rattle.std.proofs.lemmas.List.{take_all}
 use Rattle.sheet.specs.Pattern.{ExactCrease}
 use Rattle.ports.specs.declared.stop.Stop.{Stop}
 use Rattle.ports.specs.declared.stop.Stop.TheVariants as stop
 use Rattle.edits.specs.Rules.{ForEach}
-use Rattle.edits.specs.Answers.{Refuses}
+use Rattle.ports.specs.Stops.{Refuses}
 use Rattle.edits.specs.Drawn.{DrawnOne, DrawnInTurn}
 use Rattle.edits.specs.declared.refusal.EditBad.{EditBad}
 

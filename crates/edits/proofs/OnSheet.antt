@@ -7,7 +7,6 @@ use Rattle.sheet.specs.Pattern.{ExactCrease, IsKey}
 use Rattle.sheet.specs.declared.mark.Mark.{Mark}
 use Rattle.plane.specs.Walls.{LeadsInside}
 use Rattle.edits.specs.Ends.{EndsOf}
-use Rattle.edits.specs.Lines.{LinesOf}
 use Rattle.edits.specs.RabbitEar.{EarOf}
 use Rattle.edits.specs.declared.refusal.EditBad.{EditBad}
 

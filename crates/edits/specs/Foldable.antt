@@ -5,6 +5,13 @@ use Rattle.sheet.specs.Sheet.{ExactSheet, InSheet}
 use Rattle.qroot2.specs.Dir.{HasOddAngle}
 use Rattle.edits.specs.RabbitEar.{AreNotThree, AreAllJoined, IsNoMolecule}
 
+-- A sheet, and three points in an order.
+pub record ExactTriangle : Type 0 where
+  pub sheet : ExactSheet
+  pub p : ExactPoint
+  pub q : ExactPoint
+  pub r : ExactPoint
+
 -- the sides, one after another, lead in these directions
 pub record HasSides (p q r : ExactPoint) (i j m : ℕ) : Type 0 where
   pub i_small : i < 16

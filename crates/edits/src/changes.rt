@@ -4,7 +4,7 @@ ghost use Rattle.sheet.specs.Pattern.{IsPattern};
 ghost use Rattle.pattern.specs.Deltas.{Fits, Leads, IsBetween};
 ghost use Rattle.edits.specs.Drafts.{pattern_of};
 ghost use Rattle.edits.specs.EditOf.{Changed};
-ghost use Rattle.edits.specs.Answers.{Refuses};
+ghost use Rattle.ports.specs.Stops.{Refuses};
 
 use crate::EditBad;
 use crate::draft::Draft;

@@ -1,7 +1,7 @@
 //! What is drawn, erased and recoloured, as long as not too many creases stand.
 ghost use Rattle.std.specs.Prelude.{◌≡◌, ◌≤◌, All, IfErr, Ok, OnOk, length};
 ghost use Rattle.sheet.specs.Pattern.{IsKey, IsPattern, crease_limit};
-ghost use Rattle.edits.specs.Answers.{Refuses};
+ghost use Rattle.ports.specs.Stops.{Refuses};
 ghost use Rattle.edits.specs.Drafts.{pattern_of};
 ghost use Rattle.edits.specs.Drawn.{Counted, DrawnOne, DrawnInTurn};
 ghost use Rattle.edits.specs.Erase.{Erased};

@@ -2,7 +2,7 @@
 ghost use Rattle.std.specs.Prelude.{◌↔◌, ◌<◌, IfErr, IfNone, IfOk, IfSome, IsTrue, All, Ok};
 ghost use Rattle.exact.specs.Plane.{ExactPoint, IsPointRepresentable};
 ghost use Rattle.sheet.specs.Pattern.{IsKey};
-ghost use Rattle.edits.specs.Answers.{Refuses};
+ghost use Rattle.ports.specs.Stops.{Refuses};
 ghost use Rattle.edits.specs.Lefts.{AreLeft};
 ghost use Rattle.edits.specs.Rules.{ForEach};
 ghost use Rattle.edits.specs.Mirror.{AreConcerned, ImageOf, IsConcerned, IsEndImage, IsSegmentImage};

@@ -2,7 +2,8 @@
 ghost use Rattle.std.specs.Prelude.{◌≡◌, All, IfOk, IfErr, Ok};
 ghost use Rattle.sheet.specs.Pattern.{ExactPattern, IsKey, IsPattern};
 ghost use Rattle.pattern.specs.Deltas.{Fits, Leads, IsBetween};
-ghost use Rattle.edits.specs.Answers.{Answers, Refuses};
+ghost use Rattle.ports.specs.Stops.{Refuses};
+ghost use Rattle.edits.specs.Answers.{Answers};
 ghost use Rattle.edits.specs.CreaseSet.{crease};
 ghost use Rattle.edits.specs.Drafts.{pattern_of};
 ghost use Rattle.edits.specs.Drawn.{DrawnOne, DrawnInTurn};

@@ -5,7 +5,6 @@ ghost use Rattle.sheet.specs.Sheet.{InSheet, IsInside};
 ghost use Rattle.sheet.specs.Pattern.{IsKey};
 ghost use Rattle.plane.specs.Triangles.{IsIncentre, IsFootBetween};
 ghost use Rattle.edits.specs.Ends.{Joins, AreJoined};
-ghost use Rattle.edits.specs.Foldable.{HasSides, IsFoldable};
 ghost use Rattle.edits.specs.RabbitEar.{marked, countermarked, IsEar, EarOf};
 
 use crate::triangle::Triangle;
@@ -29,18 +28,16 @@ pub(crate) fn rabbit_ear(
     ensures err { IfErr result (λ e. EarOf sheet.now mark p.now q.now r.now (Err e)) }
 {
     let triangle = Triangle::of(sheet, p, q, r)?;
-    ear_of(sheet, mark, &triangle)
+    ear_of(mark, &triangle)
 }
 
 /// The creases of the rabbit ear of a triangle, where its incentre and the foot of that can be held.
-fn ear_of(sheet: &Sheet, mark: Mark, triangle: &Triangle) -> Result<[Crease; 4], EditBad>
-    requires foldable { IsFoldable sheet.now triangle.now.p triangle.now.q triangle.now.r }
-    requires sides { HasSides triangle.now.p triangle.now.q triangle.now.r triangle.now.sides.first triangle.now.sides.second triangle.now.sides.third }
-    ensures ok { IfOk result
-        (λ ear. EarOf sheet.now mark triangle.now.p triangle.now.q triangle.now.r (Ok ear)) }
-    ensures keys { IfOk result (λ ear. All (λ f. IsKey sheet.now f.seg) ear) }
-    ensures err { IfErr result
-        (λ e. EarOf sheet.now mark triangle.now.p triangle.now.q triangle.now.r (Err e)) }
+fn ear_of(mark: Mark, triangle: &Triangle) -> Result<[Crease; 4], EditBad>
+    ensures ok { IfOk result (λ ear.
+        EarOf triangle.now.sheet mark triangle.now.p triangle.now.q triangle.now.r (Ok ear)) }
+    ensures keys { IfOk result (λ ear. All (λ f. IsKey triangle.now.sheet f.seg) ear) }
+    ensures err { IfErr result (λ e.
+        EarOf triangle.now.sheet mark triangle.now.p triangle.now.q triangle.now.r (Err e)) }
 {
     let Some(centre) = triangle.incentre() else {
         return Err(EditBad::Range {
@@ -52,23 +49,23 @@ fn ear_of(sheet: &Sheet, mark: Mark, triangle: &Triangle) -> Result<[Crease; 4],
             point: PointKind::Foot,
         });
     };
-    Ok(ear(sheet, mark, triangle, &centre, &foot))
+    Ok(ear(mark, triangle, &centre, &foot))
 }
 
 /// The creases of the rabbit ear of a triangle by its incentre and the foot of that.
-fn ear(sheet: &Sheet, mark: Mark, triangle: &Triangle, centre: &Point, foot: &Point) -> [Crease; 4]
-    requires foldable { IsFoldable sheet.now triangle.now.p triangle.now.q triangle.now.r }
+fn ear(mark: Mark, triangle: &Triangle, centre: &Point, foot: &Point) -> [Crease; 4]
     requires centre { IsIncentre triangle.now.p triangle.now.q triangle.now.r centre.now }
     requires centre_canonical { IsPointCanonical centre.now }
     requires foot { IsFootBetween triangle.now.p triangle.now.q centre.now foot.now }
     requires foot_canonical { IsPointCanonical foot.now }
     ensures is { IsEar mark triangle.now.p triangle.now.q triangle.now.r result }
-    ensures keys { All (λ f. IsKey sheet.now f.seg) result }
+    ensures keys { All (λ f. IsKey triangle.now.sheet f.seg) result }
 {
+    let sheet = triangle.sheet();
     [
-        spoke(sheet, &triangle.p, centre, same_colour(mark)),
-        spoke(sheet, &triangle.q, centre, same_colour(mark)),
-        spoke(sheet, &triangle.r, centre, same_colour(mark)),
+        spoke(sheet, triangle.p(), centre, same_colour(mark)),
+        spoke(sheet, triangle.q(), centre, same_colour(mark)),
+        spoke(sheet, triangle.r(), centre, same_colour(mark)),
         spoke(sheet, foot, centre, other_colour(mark)),
     ]
 }

@@ -4,16 +4,16 @@ ghost use Rattle.exact.specs.Plane.{ExactPoint, DirOf, IsPointCanonical, IsPoint
 ghost use Rattle.sheet.specs.Sheet.{InSheet};
 ghost use Rattle.sheet.specs.declared.mark.Mark.{Mark as AnyMark};
 ghost use Rattle.qroot2.specs.Dir.{IsMiddle};
-ghost use Rattle.plane.specs.Sides.{IsOnLine};
 ghost use Rattle.plane.specs.Triangles.{IsIncentre, IsFootBetween};
 ghost use Rattle.edits.specs.Ends.{AreJoined};
 ghost use Rattle.edits.specs.RabbitEar.{AreNotThree, AreAllJoined, IsNoMolecule, EarOf};
 ghost use Rattle.edits.specs.Foldable.{HasSides, HasOddTurn, IsFoldable, IsMolecule};
 
 use crate::EditBad;
-use plane::{Point, Seg, are_in_sheet, cross_lines, in_sheet, is_same_point, side};
-use qroot2::{Dir, Sign};
+use plane::{Point, Seg, are_in_sheet, cross_lines, in_sheet, is_on_line, is_same_point};
+use qroot2::Dir;
 use sheet::Sheet;
+use std::marker::Model;
 
 /// The directions of the sides of a triangle, one after another.
 #[derive(Clone, Copy)]
@@ -26,27 +26,38 @@ struct Sides {
     third: Dir,
 }
 
-/// A triangle that can be folded into a rabbit ear: its corners in the order in which they were
-/// given, and its sides.
-#[derive(Clone, Copy)]
+/// A triangle that can be folded into a rabbit ear of a sheet: its corners in the order in which they
+/// were given, and its sides. Contracts see the sheet and the corners.
+#[derive(Drop)]
 pub(crate) struct Triangle {
-    pub(crate) p: Point,
-    pub(crate) q: Point,
-    pub(crate) r: Point,
+    sheet: Sheet,
+    p: Point,
+    q: Point,
+    r: Point,
     sides: Sides,
+}
+
+impl Model for Triangle {
+    ghost use Rattle.edits.specs.Foldable.{ExactTriangle, HasSides, IsFoldable};
+
+    ghost Value = { ExactTriangle };
+
+    ghost view = { λ t. record { sheet = t.sheet; p = t.p; q = t.q; r = t.r } };
+
+    ghost invariant = { λ t. IsFoldable t.sheet t.p t.q t.r
+        × HasSides t.p t.q t.r t.sides.first t.sides.second t.sides.third };
 }
 
 impl Triangle {
     /// The triangle of three points of the sheet, each two joined by one of the sixteen directions,
     /// not on one line, with angles that can be halved. What remains are the right isosceles ones.
     pub(crate) fn of(sheet: &Sheet, p: &Point, q: &Point, r: &Point) -> Result<Triangle, EditBad>
-        ensures corners { IfOk result (λ t. (t.p ≡ p.now) × (t.q ≡ q.now) × (t.r ≡ r.now)) }
-        ensures foldable { IfOk result (λ t. IsFoldable sheet.now t.p t.q t.r) }
-        ensures sides { IfOk result (λ t. HasSides t.p t.q t.r t.sides.first t.sides.second t.sides.third) }
+        ensures ok { IfOk result (λ t. t ≡ record { sheet = sheet.now; p = p.now; q = q.now; r = r.now }) }
         ensures err { IfErr result (λ e. (mark : AnyMark) → EarOf sheet.now mark p.now q.now r.now (Err e)) }
     {
         let sides = foldable_sides(sheet, p, q, r)?;
         Ok(Triangle {
+            sheet: *sheet,
             p: *p,
             q: *q,
             r: *r,
@@ -54,11 +65,39 @@ impl Triangle {
         })
     }
 
+    /// The sheet, on which no rule for the corners is broken.
+    pub(crate) fn sheet(&self) -> &Sheet
+        ensures sheet { result.now ≡ self.now.sheet }
+        ensures foldable { IsFoldable self.now.sheet self.now.p self.now.q self.now.r }
+    {
+        &self.sheet
+    }
+
+    /// The first corner.
+    pub(crate) fn p(&self) -> &Point
+        ensures { result.now ≡ self.now.p }
+    {
+        &self.p
+    }
+
+    /// The second corner.
+    pub(crate) fn q(&self) -> &Point
+        ensures { result.now ≡ self.now.q }
+    {
+        &self.q
+    }
+
+    /// The third corner.
+    pub(crate) fn r(&self) -> &Point
+        ensures { result.now ≡ self.now.r }
+    {
+        &self.r
+    }
+
     /// The incentre, where the bisectors of the first two corners meet. None where it cannot be
     /// held.
     pub(crate) fn incentre(&self) -> Option<Point>
-        requires molecule { IsMolecule self.now.p self.now.q self.now.r }
-        requires sides { HasSides self.now.p self.now.q self.now.r self.now.sides.first self.now.sides.second self.now.sides.third }
+        ensures foldable { IsFoldable self.now.sheet self.now.p self.now.q self.now.r }
         ensures some { IfSome result (IsIncentre self.now.p self.now.q self.now.r) }
         ensures canonical { IfSome result IsPointCanonical }
         ensures none { IfNone result
@@ -71,7 +110,6 @@ impl Triangle {
 
     /// The foot of a point on the line of the first side. None where it cannot be held.
     pub(crate) fn foot(&self, point: &Point) -> Option<Point>
-        requires sides { HasSides self.now.p self.now.q self.now.r self.now.sides.first self.now.sides.second self.now.sides.third }
         ensures some { IfSome result (IsFootBetween self.now.p self.now.q point.now) }
         ensures canonical { IfSome result IsPointCanonical }
         ensures none { IfNone result
@@ -176,13 +214,6 @@ fn is_no_molecule(p: &Point, q: &Point, r: &Point, sides: &Sides) -> bool
     ensures { IsTrue result ↔ IsNoMolecule p.now q.now r.now }
 {
     is_on_line(p, sides.first, r) || has_odd_corner(sides)
-}
-
-/// Whether a point is on the line through `at` in direction `dir`.
-fn is_on_line(at: &Point, dir: Dir, point: &Point) -> bool
-    ensures { IsTrue result ↔ IsOnLine at.now dir point.now }
-{
-    side(at, dir, point) == Sign::Zero
 }
 
 /// Whether one of the angles of a triangle is an odd number of units.

@@ -19,11 +19,6 @@ pub record AreLines (bytes : List ℕ) (units : List (List ℕ)) (rest : List �
   pub lines : All IsLine units
   pub unfinished : ¬ Contains rest 10
 
--- the last line of bytes that have ended, where it has no line feed
-abbrev pub last_line : List ℕ → List (List ℕ)
-last_line [] = []
-last_line (b ∷ bytes) = (b ∷ bytes) ∷ []
-
 abbrev pub EndsInReturn : List ℕ → Type 0
 EndsInReturn bytes = (front : List ℕ) × (bytes ≡ front ++ 13 ∷ [])
 

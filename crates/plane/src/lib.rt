@@ -31,7 +31,7 @@ pub use point::Point;
 pub use point_text::{put_point, read_point};
 pub use segment::{Seg, SegBad, on};
 pub use sheet::Sheet;
-pub use sides::{are_one_side, is_beside, side};
+pub use sides::{are_one_side, is_beside, is_on_line, side};
 pub use support::SupportLine;
 
 #[cfg(test)]

@@ -1,10 +1,8 @@
 //! On which side of a line a point is, or a segment.
 ghost use Rattle.std.specs.Prelude.{◌≡◌, ◌≤◌, ◌^◌, IsTrue, ◌↔◌};
-ghost use Rattle.exact.specs.Plane.{vector};
-ghost use Rattle.geometry.specs.Root.{count, size};
-ghost use Rattle.geometry.specs.Gap.{cross};
+ghost use Rattle.geometry.specs.Root.{size};
 ghost use Rattle.plane.specs.Ways.{root, offset_of, IsAlong};
-ghost use Rattle.plane.specs.Sides.{IsSide, IsBeside, IsOneSide};
+ghost use Rattle.plane.specs.Sides.{IsSide, IsOnLine, IsBeside, IsOneSide};
 
 use crate::order::{is_level, is_plumb};
 use crate::ways::{Way, cross_product};
@@ -20,8 +18,8 @@ pub fn side(at: &Point, dir: Dir, point: &Point) -> Sign
 }
 
 /// Whether a point is on the line through `at` in direction `dir`.
-pub(crate) fn is_on_line(at: &Point, dir: Dir, point: &Point) -> bool
-    ensures { IsTrue result ↔ (cross (vector dir) at.now point.now ≡ count 0) }
+pub fn is_on_line(at: &Point, dir: Dir, point: &Point) -> bool
+    ensures { IsTrue result ↔ IsOnLine at.now dir point.now }
 {
     match dir.number() {
         0 => is_level(at, point),

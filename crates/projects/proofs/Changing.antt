@@ -6,7 +6,6 @@ use Rattle.pattern.specs.Deltas.{Fits, Leads, inverse_of}
 use Rattle.pattern.specs.declared.delta.Delta.{Delta}
 use Rattle.pattern.proofs.callers.Leading.{leads_to_one}
 use Rattle.ports.specs.Stops.{Refuses as RefusesBy}
-use Rattle.edits.specs.Answers.{Refuses as RefusesPlan}
 use Rattle.ports.specs.declared.stop.Stop.{Stop}
 use Rattle.ports.specs.declared.stop.Stop.TheVariants as stop
 use Rattle.subdivide.specs.CutAnswers.{IsCutAnswer}
@@ -304,7 +303,7 @@ refuses_change p given c is cut t why r e h = inr (
 
 -- the end of an edit that is planned
 pub plan_ends : (p : ExactProject) (edit : Edit) (e : Stop EditBad)
-    → RefusesPlan (EditOf p.pattern edit) e → EndsBy (RefusesEdit p edit) (of_edit e)
+    → RefusesBy (EditOf p.pattern edit) e → EndsBy (RefusesEdit p edit) (of_edit e)
 plan_ends p edit stop.NoMemory h = tt
 plan_ends p edit (stop.Why bad) h = inl (bad, h, refl)
 

@@ -1,5 +1,5 @@
 -- What halving an angle answers.
-use Rattle.std.proofs.Common.{◌≡◌, ℕ, List, Result, Err, refl, inl, inr, arith}
+use Rattle.std.proofs.Common.{◌≡◌, ℕ, Result, Err, refl, inl, inr, arith}
 use Rattle.exact.specs.Plane.{ExactPoint, ExactSegment}
 use Rattle.sheet.specs.Sheet.{InSheet}
 use Rattle.sheet.specs.Pattern.{ExactPattern}

@@ -1,5 +1,5 @@
 -- What stands beside a pattern: its members, their order and their number.
-use Rattle.std.proofs.Common.{◌≡◌, ◌≢◌, ◌+◌, ◌≤◌, List, [], ◌∷◌, length, get_or, refl, sym, ap, subst, ◌∙◌, ◌⊎◌, inl, inr, arith}
+use Rattle.std.proofs.Common.{◌≡◌, ◌≢◌, ◌+◌, List, [], ◌∷◌, length, refl, sym, ap, subst, ◌∙◌, ◌⊎◌, inl, inr, arith}
 use Rattle.std.specs.Prelude.{◌↔◌, Contains}
 use Rattle.std.specs.declared.cmp.Ordering.{Ordering}
 use Rattle.std.specs.declared.cmp.Ordering.TheVariants as o
@@ -14,7 +14,7 @@ use Rattle.plane.specs.Segments.{HasCanonicalEnds, IsHeld}
 use Rattle.plane.proofs.callers.Orders.{segment_exact, segment_total, segment_less}
 use Rattle.creases.specs.Creases.{Ascends}
 use Rattle.creases.specs.Standing.{AreStanding}
-use Rattle.creases.proofs.callers.Members.{all_of, tied_segments, has_or_not, segment_before_trans, segment_not_itself, one_on_segment, first_before, later_ascend}
+use Rattle.creases.proofs.callers.Members.{all_of, tied_segments, segment_before_trans, segment_not_itself, one_on_segment, first_before, later_ascend}
 use Rattle.creases.proofs.callers.Overlaps.{overlap_back, overlap_itself}
 use Rattle.creases.proofs.callers.Standing.{apart_in, held_in, standing_of}
 use Rattle.edits.specs.Beside.{put_before, put_all, leave_one, leave_all, standing, AreBeside}

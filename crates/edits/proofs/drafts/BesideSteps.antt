@@ -1,5 +1,5 @@
 -- What stands after a crease was taken out or put in beside a pattern.
-use Rattle.std.proofs.Common.{◌≡◌, ◌≢◌, List, refl, sym, subst, ◌⊎◌, inl, inr}
+use Rattle.std.proofs.Common.{◌≡◌, ◌≢◌, List, refl, sym, subst, inl, inr}
 use Rattle.std.specs.Prelude.{◌↔◌, AllPairs, Contains}
 use Rattle.std.proofs.lemmas.List.Elements.{All-contains}
 use Rattle.exact.specs.Plane.{ExactSegment, Overlap}

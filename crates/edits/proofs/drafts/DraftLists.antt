@@ -1,6 +1,5 @@
 -- The creases of a pattern may stand, and what stands of a draft.
-use Rattle.std.proofs.Common.{◌≡◌, sym, subst, get_or}
-use Rattle.std.specs.Prelude.{All}
+use Rattle.std.proofs.Common.{◌≡◌, sym, subst}
 use Rattle.sheet.specs.Pattern.{ExactPattern, IsPattern}
 use Rattle.creases.specs.Standing.{AreStanding}
 use Rattle.edits.specs.Drafts.{ExactDraft, with_creases, pattern_of}

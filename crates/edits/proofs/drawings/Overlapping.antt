@@ -1,13 +1,9 @@
 -- Two segments that overlap lie on one line, and each begins before the other ends.
-use Rattle.std.proofs.Common.{◌≡◌, ◌≢◌, ℕ, ◌<◌, ◌%◌, sym, subst, ◌⊎◌, inl, inr, arith}
-use Rattle.std.proofs.lemmas.Bool.{cases_order}
-use Rattle.exact.specs.Plane.{ExactPoint, ExactSegment, SamePoint, Before, IsSegment, OnBoth, Overlap, vector}
+use Rattle.std.proofs.Common.{ℕ, sym, subst, ◌⊎◌}
+use Rattle.exact.specs.Plane.{ExactSegment, SamePoint, Before, IsSegment, Overlap, vector}
 use Rattle.geometry.specs.Meeting.{Along}
 use Rattle.geometry.proofs.Lines.{on_trans, on_back}
-use Rattle.geometry.proofs.Directions.{one_direction}
-use Rattle.geometry.proofs.PointOrder.{ordered, before_trans, same_before, same_back, before_later}
-use Rattle.geometry.proofs.Segments.{on_line, one_common}
-use Rattle.geometry.proofs.Found.{along_half}
+use Rattle.geometry.proofs.Segments.{on_line}
 use Rattle.creases.proofs.callers.Overlaps.{one_way, passes}
 use Rattle.edits.specs.Parts.{IsPart}
 use Rattle.edits.proofs.drawings.PartEnds.{along, AreOverlapping, front, back, front_is_part, back_is_part, part_is}

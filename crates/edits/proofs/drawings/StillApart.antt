@@ -1,15 +1,13 @@
 -- After a drawing no two creases overlap.
-use Rattle.std.proofs.Common.{◌≡◌, List, get_or, sym, ap, subst, ◌∙◌, ◌⊎◌, inl, inr, arith}
-use Rattle.std.proofs.lemmas.List.{get_or_default}
-use Rattle.std.specs.Prelude.{All, AllPairs, Contains, slice_index_or}
-use Rattle.std.proofs.lemmas.Bool.{cases_order}
+use Rattle.std.proofs.Common.{List, get_or, sym, subst, ◌∙◌, inl, inr, arith}
+use Rattle.std.specs.Prelude.{All, AllPairs, Contains}
 use Rattle.std.proofs.lemmas.List.Elements.{All-contains}
 use Rattle.exact.specs.Plane.{ExactSegment, SamePoint, Before, IsSegment, Overlap, SegmentBefore}
 use Rattle.sheet.specs.Sheet.{ExactSheet}
 use Rattle.sheet.specs.Pattern.{ExactCrease, ExactPattern, IsPattern, IsKey}
 use Rattle.geometry.proofs.PointOrder.{before_not_same, before_not_back, same_before, before_same, same_back, same_trans}
 use Rattle.creases.proofs.callers.Overlaps.{ended, overlap_back}
-use Rattle.creases.proofs.callers.Members.{segment_not_back, pair_at}
+use Rattle.creases.proofs.callers.Members.{segment_not_back}
 use Rattle.creases.proofs.callers.Standing.{one_or_apart}
 use Rattle.edits.specs.Parts.{Covers, IsPart}
 use Rattle.edits.specs.Drawn.{IsLeft, StandsAfter, Drawn}

@@ -1,6 +1,6 @@
 -- What an incentre and its foot are: the one inside the sheet, the other in it, and joined to the points from which creases lead.
 use Rattle.std.proofs.Common.{◌≡◌, ℕ, zero, suc, ◌<◌, List, [], ◌∷◌, get_or, refl, subst, inl, inr, arith}
-use Rattle.std.specs.Prelude.{Result, Ok, Err, IfOk, IfErr, All}
+use Rattle.std.specs.Prelude.{Ok, Err, All}
 use Rattle.exact.specs.Plane.{ExactPoint, SamePoint, DirOf, IsPointCanonical, IsPointRepresentable, vector}
 use Rattle.exact.proofs.Told.{same_itself}
 use Rattle.sheet.specs.Sheet.{ExactSheet, InSheet, IsInside}
@@ -25,7 +25,6 @@ use Rattle.edits.specs.CreaseSet.{crease}
 use Rattle.edits.specs.Ends.{Joins, AreJoined}
 use Rattle.edits.specs.RabbitEar.{IsEar, EarOf, marked, countermarked}
 use Rattle.edits.specs.Foldable.{HasSides, IsFoldable}
-use Rattle.edits.specs.declared.refusal.EditBad.{EditBad}
 use Rattle.edits.specs.declared.refusal.EditBad.TheVariants as bad
 use Rattle.edits.specs.declared.refusal.PointKind.TheVariants as point
 use Rattle.edits.proofs.ears.Creases.{joined_on, joined_dir, ends_back}
@@ -163,12 +162,3 @@ all_four P a b d e pa pb pd pe = at_index
     at_index (suc (suc zero)) f h = pd
     at_index (suc (suc (suc zero))) f h = pe
     at_index (suc (suc (suc (suc k)))) f h = absurd (omega arith)
-
--- the answer for equal corners
-pub moved_ok : (sheet : ExactSheet) (m : Mark) (p q r p' q' r' : ExactPoint) (answer : Result (List ExactCrease) EditBad) → (p ≡ p') × (q ≡ q') × (r ≡ r') → IfOk answer (λ ear. EarOf sheet m p q r (Ok ear)) → IfOk answer (λ ear. EarOf sheet m p' q' r' (Ok ear))
-moved_ok sheet m p q r p' q' r' answer e h =
-    subst (λ z. IfOk answer (λ ear. EarOf sheet m p' q' z (Ok ear))) e.2 (subst (λ z. IfOk answer (λ ear. EarOf sheet m p' z r (Ok ear))) e.1 (subst (λ z. IfOk answer (λ ear. EarOf sheet m z q r (Ok ear))) e.0 h))
-
-pub moved_err : (sheet : ExactSheet) (m : Mark) (p q r p' q' r' : ExactPoint) (answer : Result (List ExactCrease) EditBad) → (p ≡ p') × (q ≡ q') × (r ≡ r') → IfErr answer (λ e. EarOf sheet m p q r (Err e)) → IfErr answer (λ e. EarOf sheet m p' q' r' (Err e))
-moved_err sheet m p q r p' q' r' answer e h =
-    subst (λ z. IfErr answer (λ f. EarOf sheet m p' q' z (Err f))) e.2 (subst (λ z. IfErr answer (λ f. EarOf sheet m p' z r (Err f))) e.1 (subst (λ z. IfErr answer (λ f. EarOf sheet m z q r (Err f))) e.0 h))

@@ -1,6 +1,6 @@
 -- What a ray meets of one segment.
 use Rattle.std.proofs.Common.{◌≡◌, ◌≢◌, ℕ, ◌%◌, ◌<◌, ◌≤◌, refl, sym, subst, ◌⊎◌}
-use Rattle.exact.specs.Plane.{ExactPoint, ExactSegment, SamePoint, Before, OnSeg, IsPointCanonical, IsPointRepresentable}
+use Rattle.exact.specs.Plane.{ExactPoint, ExactSegment, Before, OnSeg, IsPointCanonical, IsPointRepresentable}
 use Rattle.geometry.specs.Meeting.{Along}
 use Rattle.geometry.specs.Rays.{OnRay, RunsAlong, MeetsRay}
 use Rattle.geometry.proofs.Found.{turn_on}

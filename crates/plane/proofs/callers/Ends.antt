@@ -8,6 +8,8 @@ use Rattle.geometry.specs.Gap.{cross}
 use Rattle.geometry.specs.Meeting.{Along}
 use Rattle.geometry.proofs.Segments.{on_seg, on_line}
 use Rattle.geometry.proofs.PointOrder.{ordered, before_not_back}
+use Rattle.geometry.proofs.Found.{turn_on}
+use Rattle.plane.specs.Sides.{IsOnLine}
 use Rattle.plane.specs.Segments.{HasEnds}
 use Rattle.plane.specs.declared.segment.SegBad.{SegBad}
 use Rattle.plane.proofs.callers.Told.{fails}
@@ -61,10 +63,10 @@ none_turned p q b d = (
 )
 
 -- a point between the ends is on the segment where it is on the line
-pub on_told : (s : ExactSegment) (r p : ExactPoint) (k : ℕ) (b : Bool) → IsSegment s → p ≡ s.p → k < 16 → DirOf s.p s.q k → (¬ Before r s.p) × (¬ Before s.q r) → IsTrue b ↔ (cross (vector k) p r ≡ count 0) → IsTrue b ↔ OnSeg r s
+pub on_told : (s : ExactSegment) (r p : ExactPoint) (k : ℕ) (b : Bool) → IsSegment s → p ≡ s.p → k < 16 → DirOf s.p s.q k → (¬ Before r s.p) × (¬ Before s.q r) → IsTrue b ↔ IsOnLine p k r → IsTrue b ↔ OnSeg r s
 on_told s r p k b i e l d h f = (
-  λ t. on_seg s k r a (record { on = subst (λ z. cross (vector k) z r ≡ count 0) e (f.0 t) }) h.0 h.1,
-  λ o. f.1 (subst (λ z. cross (vector k) z r ≡ count 0) (sym e) (on_line s k r a o).on),
+  λ t. on_seg s k r a ((turn_on k s.p r).0 (subst (λ z. IsOnLine z k r) e (f.0 t))) h.0 h.1,
+  λ o. f.1 (subst (λ z. IsOnLine z k r) (sym e) ((turn_on k s.p r).1 (on_line s k r a o))),
 )
   where
     a : Along s k

@@ -92,11 +92,11 @@ not_equal s t k j a b n e = n (one_direction k j a.small b.small (along_half s k
 pub along_told : (s : ExactSegment) (k : ℕ) → IsSegment s → k < 16 → DirOf s.p s.q k → Along s k
 along_told s k i h d = record { small = h; ordered = i.0; dir = d }
 
-pub one_line : (s t : ExactSegment) (p q : ExactPoint) (k : ℕ) → p ≡ s.p → q ≡ t.p → Along s k → Along t k → cross (vector k) p q ≡ count 0 → AreCollinear s t
-one_line s t p q k e f a b h = record { k = k; first = a; second = b; line = subst (λ z. cross (vector k) s.p z ≡ count 0) f (subst (λ z. cross (vector k) z q ≡ count 0) e h) }
+pub one_line : (s t : ExactSegment) (p q : ExactPoint) (k : ℕ) → p ≡ s.p → q ≡ t.p → Along s k → Along t k → IsOnLine p k q → AreCollinear s t
+one_line s t p q k e f a b h = record { k = k; first = a; second = b; line = ((turn_on k s.p t.p).0 (subst (IsOnLine s.p k) f (subst (λ z. IsOnLine z k q) e h))).on }
 
-pub two_lines : (s t : ExactSegment) (p q : ExactPoint) (k : ℕ) → p ≡ s.p → q ≡ t.p → Along s k → Along t k → ¬ (cross (vector k) p q ≡ count 0) → (r : ExactPoint) → ¬ OnBoth r s t
-two_lines s t p q k e f a b n r = none_common s t k r a b (λ h. n (subst (λ z. cross (vector k) z q ≡ count 0) (sym e) (subst (λ z. cross (vector k) s.p z ≡ count 0) (sym f) h.on)))
+pub two_lines : (s t : ExactSegment) (p q : ExactPoint) (k : ℕ) → p ≡ s.p → q ≡ t.p → Along s k → Along t k → (¬ IsOnLine p k q) → (r : ExactPoint) → ¬ OnBoth r s t
+two_lines s t p q k e f a b n r = none_common s t k r a b (λ h. n (subst (λ z. IsOnLine z k q) (sym e) (subst (IsOnLine s.p k) (sym f) ((turn_on k s.p t.p).1 h))))
 
 -- zero has no side
 zero_not_above : (f : Root) → HasSign f.a f.b sign.Zero → ¬ Above f

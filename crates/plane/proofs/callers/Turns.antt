@@ -9,9 +9,9 @@ use Rattle.geometry.specs.Root.{Root, count}
 use Rattle.geometry.specs.Gap.{num, cross}
 use Rattle.geometry.proofs.Directions.{vector_whole}
 use Rattle.geometry.proofs.Plain.{flat_on, upright_on}
-use Rattle.geometry.proofs.Found.{turn_cross}
+use Rattle.geometry.proofs.Found.{turn_cross, turn_on}
 use Rattle.plane.specs.Ways.{root}
-use Rattle.plane.specs.Sides.{turn_of, IsSide}
+use Rattle.plane.specs.Sides.{turn_of, IsSide, IsOnLine}
 
 num_parts : (x : ExactNumber) (r : Root) → r ≡ num x → (r.a ≡ x.a) × (r.b ≡ x.b)
 unfolding num
@@ -24,11 +24,11 @@ pub side_told : (p : ExactPoint) (k : ℕ) (r : ExactPoint) (off : Pair) (s : Si
 side_told p k r off s e h = (let q = num_parts (turn_of p k r) (root off) (e ∙ sym (turn_cross (vector k) p r (vector_whole k))) in moved off.a _ off.b _ s q.0 q.1 h)
 
 -- along the axes
-pub level_told : (k : ℕ) (p r : ExactPoint) (b : Bool) → k ≡ 0 → IsTrue b ↔ Same p.y r.y → IsTrue b ↔ (cross (vector k) p r ≡ count 0)
-level_told k p r b e f = subst (λ j. IsTrue b ↔ (cross (vector j) p r ≡ count 0)) (sym e) (λ t. ((flat_on p r).0 (f.0 t)).on, λ h. f.1 ((flat_on p r).1 (record { on = h })))
+pub level_told : (k : ℕ) (p r : ExactPoint) (b : Bool) → k ≡ 0 → IsTrue b ↔ Same p.y r.y → IsTrue b ↔ IsOnLine p k r
+level_told k p r b e f = subst (λ j. IsTrue b ↔ IsOnLine p j r) (sym e) (λ t. (turn_on 0 p r).1 ((flat_on p r).0 (f.0 t)), λ h. f.1 ((flat_on p r).1 ((turn_on 0 p r).0 h)))
 
-pub plumb_told : (k : ℕ) (p r : ExactPoint) (b : Bool) → k ≡ 4 → IsTrue b ↔ Same p.x r.x → IsTrue b ↔ (cross (vector k) p r ≡ count 0)
-plumb_told k p r b e f = subst (λ j. IsTrue b ↔ (cross (vector j) p r ≡ count 0)) (sym e) (λ t. ((upright_on p r).0 (f.0 t)).on, λ h. f.1 ((upright_on p r).1 (record { on = h })))
+pub plumb_told : (k : ℕ) (p r : ExactPoint) (b : Bool) → k ≡ 4 → IsTrue b ↔ Same p.x r.x → IsTrue b ↔ IsOnLine p k r
+plumb_told k p r b e f = subst (λ j. IsTrue b ↔ IsOnLine p j r) (sym e) (λ t. (turn_on 4 p r).1 ((upright_on p r).0 (f.0 t)), λ h. f.1 ((upright_on p r).1 ((turn_on 4 p r).0 h)))
 
 -- and back
 pub side_cross : (k : ℕ) (p r : ExactPoint) (s : Sign) → IsSide p k r s → HasSign (cross (vector k) p r).a (cross (vector k) p r).b s

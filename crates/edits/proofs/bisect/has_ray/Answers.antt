@@ -1,6 +1,5 @@
 use Rattle.std.proofs.Common.{sym, subst, inl, inr}
 use Rattle.std.specs.Prelude.{Contains}
-use Rattle.exact.specs.Plane.{ExactSegment}
 use Rattle.sheet.specs.Sheet.{ExactSheet, sides}
 use Rattle.plane.proofs.callers.Told.{fails}
 use Rattle.edits.proofs.bisect.has_ray.Goals as goal

@@ -1,4 +1,4 @@
-use Rattle.std.proofs.Common.{◌≡◌, ◌∙◌, ◌++◌, List, ap, sym}
+use Rattle.std.proofs.Common.{◌∙◌, ◌++◌, List, ap, sym}
 use Rattle.std.proofs.lemmas.List.{append-nil}
 use Rattle.sheet.specs.Pattern.{ExactCrease}
 use Rattle.pattern.proofs.callers.Fronts.{moved}

@@ -1,4 +1,4 @@
-use Rattle.std.proofs.Common.{◌≡◌, ◌∙◌, ◌++◌, ◌∷◌, [], List, refl, ap, sym, subst}
+use Rattle.std.proofs.Common.{◌≡◌, ◌∙◌, ◌++◌, ◌∷◌, [], List, ap, sym, subst}
 use Rattle.std.specs.Prelude.{All}
 use Rattle.exact.specs.Plane.{ExactSegment, Overlap}
 use Rattle.sheet.specs.Pattern.{ExactCrease}

@@ -7,7 +7,7 @@ use Rattle.sheet.specs.Pattern.{ExactCrease, ExactPattern}
 use Rattle.ports.specs.declared.stop.Stop.{Stop}
 use Rattle.ports.specs.declared.stop.Stop.TheVariants as stop
 use Rattle.pattern.proofs.callers.Told.{refuted, shown}
-use Rattle.edits.specs.Answers.{Refuses}
+use Rattle.ports.specs.Stops.{Refuses}
 use Rattle.edits.specs.Rules.{ForEach}
 use Rattle.edits.specs.Mirror.{AreConcerned, ImageOf, MirrorImages}
 use Rattle.edits.specs.declared.refusal.EditBad.{EditBad}

@@ -2,7 +2,7 @@ use Rattle.std.proofs.Common.{List, ap, sym, subst}
 use Rattle.std.proofs.lemmas.Result.{err_from_is_err_and}
 use Rattle.sheet.specs.Pattern.{ExactCrease, IsPattern}
 use Rattle.edits.specs.Drafts.{ExactDraft, pattern_of}
-use Rattle.edits.specs.Answers.{Refuses}
+use Rattle.ports.specs.Stops.{Refuses}
 use Rattle.edits.specs.CreaseSet.{crease}
 use Rattle.edits.specs.Drawn.{DrawnOne}
 use Rattle.edits.proofs.planning.drawn.Goals as goal

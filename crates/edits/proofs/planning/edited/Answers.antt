@@ -14,7 +14,7 @@ use Rattle.edits.specs.RabbitEar.{EarOf}
 use Rattle.edits.specs.EditOf.{Edited}
 use Rattle.edits.specs.declared.edit.Edit.{Edit}
 use Rattle.edits.proofs.Answering.{refused, stopped, followed}
-use Rattle.edits.proofs.OnSheet.{ends_on, ear_on, keys_on}
+use Rattle.edits.proofs.OnSheet.{ends_on, ear_on}
 use Rattle.edits.proofs.planning.edited.Goals as goal
 
 pub returns-in_err-segment_between-in-Draw-clause-is : goal.returns-in_err-segment_between-in-Draw-clause-is

@@ -4,7 +4,7 @@ use Rattle.ports.specs.declared.stop.Stop.{Stop}
 use Rattle.sheet.specs.Pattern.{ExactCrease, ExactPattern}
 use Rattle.pattern.specs.Deltas.{Fits, Leads, IsBetween}
 use Rattle.pattern.specs.declared.delta.Delta.{Delta}
-use Rattle.edits.specs.Answers.{Refuses}
+use Rattle.ports.specs.Stops.{Refuses}
 use Rattle.edits.specs.Drafts.{pattern_of}
 use Rattle.edits.specs.EditOf.{Edited, Changed, EditOf}
 use Rattle.edits.specs.declared.edit.Edit.{Edit}

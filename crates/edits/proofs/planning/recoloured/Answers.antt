@@ -3,7 +3,7 @@ use Rattle.std.specs.Prelude.{Ok}
 use Rattle.std.proofs.lemmas.Result.{err_from_is_err_and}
 use Rattle.sheet.specs.Pattern.{ExactCrease, IsPattern}
 use Rattle.edits.specs.Drafts.{ExactDraft, pattern_of}
-use Rattle.edits.specs.Answers.{Refuses}
+use Rattle.ports.specs.Stops.{Refuses}
 use Rattle.edits.specs.Recolour.{Recoloured}
 use Rattle.edits.proofs.planning.recoloured.Goals as goal
 

@@ -1,4 +1,3 @@
-use Rattle.sheet.specs.Sheet.{InSheet}
 use Rattle.plane.proofs.callers.Told.{fails}
 use Rattle.edits.proofs.triangle.are_three_in.Goals as goal
 

@@ -2,7 +2,7 @@ use Rattle.std.proofs.Common.{subst}
 use Rattle.std.specs.Prelude.{IfErr}
 use Rattle.std.proofs.lemmas.Result.{err_from_is_err_and}
 use Rattle.sheet.specs.Pattern.{ExactPattern}
-use Rattle.edits.specs.Answers.{Refuses as RefusesPlan}
+use Rattle.ports.specs.Stops.{Refuses as RefusesPlan}
 use Rattle.edits.specs.EditOf.{EditOf}
 use Rattle.projects.specs.Projects.{ExactProject}
 use Rattle.projects.specs.Ends.{EndsBy}

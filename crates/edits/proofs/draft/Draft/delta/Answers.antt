@@ -1,5 +1,4 @@
-use Rattle.std.proofs.Common.{List, ap, subst, ◌∙◌}
-use Rattle.sheet.specs.Pattern.{ExactCrease}
+use Rattle.std.proofs.Common.{ap, subst, ◌∙◌}
 use Rattle.creases.specs.Standing.{AreStanding}
 use Rattle.pattern.specs.Deltas.{IsBetween}
 use Rattle.edits.specs.Drafts.{ExactDraft}

@@ -1,4 +1,4 @@
-use Rattle.std.proofs.Common.{◌≡◌, ◌∙◌, List, ap, sym, subst}
+use Rattle.std.proofs.Common.{◌≡◌, List, ap, sym, subst}
 use Rattle.std.specs.Prelude.{Contains}
 use Rattle.exact.specs.Plane.{Overlap}
 use Rattle.sheet.specs.Pattern.{ExactCrease}
