@@ -1,5 +1,5 @@
 //! Commands whose words name a path for the keeper.
-ghost use Rattle.std.specs.Prelude.{◌≡◌, ◌≤◌, Some, None};
+ghost use Rattle.std.specs.Prelude.{◌≡◌, ◌+◌, ◌≤◌, Some, None};
 ghost use Rattle.ports.specs.Streams.{Rose};
 ghost use Rattle.oriedit.specs.Script.{works};
 ghost use Rattle.oriedit.specs.Outside.{outside};
@@ -31,6 +31,7 @@ pub(crate) fn kept_script<S: Source, W: Sink, K: Keeper>(
     ensures read_fault { result ≡ Status.ReadFault → Rose (S.faults source.old) (S.faults source.new) }
     ensures write_fault { result ≡ Status.WriteFault → Rose (W.faults sink.old) (W.faults sink.new) }
     ensures source_faults { S.faults source.old ≤ S.faults source.new }
+    ensures one_failed_take { S.faults source.new ≤ S.faults source.old + 1 }
     ensures sink_faults { W.faults sink.old ≤ W.faults sink.new }
     ensures keeper_faults { K.faults keeper.old ≤ K.faults keeper.new }
     ensures source_aside { S.aside source.new ≡ S.aside source.old }

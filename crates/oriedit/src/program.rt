@@ -1,5 +1,5 @@
 //! The call that does all that the program does.
-ghost use Rattle.std.specs.Prelude.{◌≡◌, ◌≤◌, None, map, string_bytes};
+ghost use Rattle.std.specs.Prelude.{◌≡◌, ◌+◌, ◌≤◌, None, map, string_bytes};
 ghost use Rattle.ports.specs.Streams.{Rose};
 ghost use Rattle.oriedit.specs.Script.{works};
 ghost use Rattle.oriedit.specs.Outside.{outside};
@@ -35,7 +35,8 @@ const LIMIT: usize = 16_777_216;
 /// summary; `serve` with a port answers requests that come there, over so many connections as the words
 /// say, one after another. Other words write the usage text. Where the words of `script` or `serve` name
 /// a path, the keeper is attached there before all else, and `KeeperFault` comes where that fails.
-/// `DoorFault` comes where the door fails.
+/// `DoorFault` comes where the door fails. At most one take fails in a run, whatever the source does, since
+/// none follows it.
 #[tactic(auto, using(crate::proofs::FewTurns::few_turns))]
 pub fn run<S: Source, W: Sink, K: Keeper, D: Door>(
     alloc: Global,
@@ -63,6 +64,7 @@ pub fn run<S: Source, W: Sink, K: Keeper, D: Door>(
     ensures read_fault { result ≡ Status.ReadFault → Rose (S.faults source.old) (S.faults source.new) }
     ensures write_fault { result ≡ Status.WriteFault → Rose (W.faults sink.old) (W.faults sink.new) }
     ensures source_faults { S.faults source.old ≤ S.faults source.new }
+    ensures one_failed_take { S.faults source.new ≤ S.faults source.old + 1 }
     ensures sink_faults { W.faults sink.old ≤ W.faults sink.new }
     ensures keeper_faults { K.faults keeper.old ≤ K.faults keeper.new }
     ensures door_faults { D.door_faults door.old ≤ D.door_faults door.new }
@@ -104,6 +106,7 @@ fn run_asked<S: Source, W: Sink, K: Keeper, D: Door>(
     ensures read_fault { result ≡ Status.ReadFault → Rose (S.faults source.old) (S.faults source.new) }
     ensures write_fault { result ≡ Status.WriteFault → Rose (W.faults sink.old) (W.faults sink.new) }
     ensures source_faults { S.faults source.old ≤ S.faults source.new }
+    ensures one_failed_take { S.faults source.new ≤ S.faults source.old + 1 }
     ensures sink_faults { W.faults sink.old ≤ W.faults sink.new }
     ensures keeper_faults { K.faults keeper.old ≤ K.faults keeper.new }
     ensures door_faults { D.door_faults door.old ≤ D.door_faults door.new }
@@ -138,6 +141,7 @@ fn cut_input<S: Source, W: Sink>(alloc: Global, source: &mut S, sink: &mut W) ->
     ensures read_fault { result ≡ Status.ReadFault → Rose (S.faults source.old) (S.faults source.new) }
     ensures write_fault { result ≡ Status.WriteFault → Rose (W.faults sink.old) (W.faults sink.new) }
     ensures source_faults { S.faults source.old ≤ S.faults source.new }
+    ensures one_failed_take { S.faults source.new ≤ S.faults source.old + 1 }
     ensures sink_faults { W.faults sink.old ≤ W.faults sink.new }
     ensures source_aside { S.aside source.new ≡ S.aside source.old }
     ensures sink_aside { W.aside sink.new ≡ W.aside sink.old }
@@ -163,6 +167,7 @@ fn check_input<S: Source, W: Sink>(
     ensures read_fault { result ≡ Status.ReadFault → Rose (S.faults source.old) (S.faults source.new) }
     ensures write_fault { result ≡ Status.WriteFault → Rose (W.faults sink.old) (W.faults sink.new) }
     ensures source_faults { S.faults source.old ≤ S.faults source.new }
+    ensures one_failed_take { S.faults source.new ≤ S.faults source.old + 1 }
     ensures sink_faults { W.faults sink.old ≤ W.faults sink.new }
     ensures source_aside { S.aside source.new ≡ S.aside source.old }
     ensures sink_aside { W.aside sink.new ≡ W.aside sink.old }

@@ -1,5 +1,5 @@
 //! The whole input, up to a limit of bytes.
-ghost use Rattle.std.specs.Prelude.{◌≡◌, ◌≤◌, ◌<◌, IsErrOf};
+ghost use Rattle.std.specs.Prelude.{◌≡◌, ◌+◌, ◌≤◌, ◌<◌, IsErrOf};
 ghost use Rattle.ports.specs.Streams.{Rose};
 ghost use Rattle.oriedit.specs.Reading.{ReadsAll};
 
@@ -22,6 +22,7 @@ pub fn read_all<S: Source>(alloc: Global, source: &mut S, limit: usize) -> Resul
     ensures bytes { ReadsAll (λ v. v.items) limit (S.left source.old) (S.left source.new) result }
     ensures failed { IsErrOf result ReadEnd.Failed → Rose (S.faults source.old) (S.faults source.new) }
     ensures later { S.faults source.old ≤ S.faults source.new }
+    ensures once { S.faults source.new ≤ S.faults source.old + 1 }
     ensures aside { S.aside source.new ≡ S.aside source.old }
 {
     let mut bytes = Vec::new(alloc);

@@ -1,5 +1,5 @@
 //! Scripts: commands, one after another, each answered before the next is read.
-ghost use Rattle.std.specs.Prelude.{◌≡◌, ◌≤◌};
+ghost use Rattle.std.specs.Prelude.{◌≡◌, ◌+◌, ◌≤◌};
 ghost use Rattle.ports.specs.Streams.{Rose};
 ghost use Rattle.oriedit.specs.Script.{works, ScriptRuns};
 ghost use Rattle.oriedit.specs.Lasting.{AnswersLast};
@@ -31,6 +31,7 @@ pub fn script<S: Source, W: Sink, K: Keeper>(
     ensures read_fault { result ≡ Status.ReadFault → Rose (S.faults source.old) (S.faults source.new) }
     ensures write_fault { result ≡ Status.WriteFault → Rose (W.faults sink.old) (W.faults sink.new) }
     ensures source_faults { S.faults source.old ≤ S.faults source.new }
+    ensures one_failed_take { S.faults source.new ≤ S.faults source.old + 1 }
     ensures sink_faults { W.faults sink.old ≤ W.faults sink.new }
     ensures keeper_faults { K.faults keeper.old ≤ K.faults keeper.new }
     ensures source_aside { S.aside source.new ≡ S.aside source.old }

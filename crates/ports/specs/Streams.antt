@@ -17,6 +17,11 @@ pub record HasCause {T E : Type 0} (before now : ℕ) (result : Result T E) : Ty
   pub later : before ≤ now
   pub failed : OnErr result (Rose before now)
 
+-- a call that succeeds leaves the count as it was, and one that fails raises it by one at most
+abbrev pub RisesOnce : {T E : Type 0} → ℕ → ℕ → Result T E → Type 0
+RisesOnce before now (Ok x) = now ≡ before
+RisesOnce before now (Err e) = now ≤ before + 1
+
 -- what a take does to a source that tells what is left
 pub record TakesFront (old new buf_old buf_new : List ℕ) (count : ℕ) : Type 0 where
   pub bound : count ≤ length buf_old

@@ -1,7 +1,7 @@
 //! A source and a sink in memory, with calls that fail at numbers of choice.
 ghost use Rattle.std.specs.Prelude.{◌≡◌, ◌≤◌, ◌<◌, ◌+◌, Some, vec_capacity, IsErr, IfOk, ◌↔◌, Contains, ◌⊎◌};
 ghost use Rattle.std.specs.Prelude.{length};
-ghost use Rattle.ports.specs.Streams.{Alone, Takes, Puts, HasCause};
+ghost use Rattle.ports.specs.Streams.{Alone, Takes, Puts, HasCause, RisesOnce};
 ghost use Rattle.ports.specs.Memory.{counted, CountsFault, KeepsPlan, KeepsRoom};
 
 use crate::{Calls, Failed, Sink, Source};
@@ -67,6 +67,7 @@ impl Source for MemSource {
     fn take(&mut self, buf: &mut [u8]) -> Result<usize, Failed>
         ensures bytes { Takes (Some self.old.left) (Some self.new.left) buf.old buf.new result }
         ensures cause { HasCause self.old.faults self.new.faults result }
+        ensures once { RisesOnce self.old.faults self.new.faults result }
         ensures failed { IsErr result ↔ Contains self.old.fail (counted self.old.calls) }
         ensures chunk { IfOk result (λ count. count ≤ self.old.chunk) }
         ensures counts { CountsFault self.old.faults self.new.faults result }

@@ -1,7 +1,7 @@
 //! A connection in memory, and a door of such, with calls that fail at numbers of choice.
 ghost use Rattle.std.specs.Prelude.{◌≡◌, ◌≤◌, ◌<◌, ◌+◌, [], Some, None, IsErr, IfOk, ◌↔◌, ◌⊎◌, Contains};
 ghost use Rattle.std.specs.Prelude.{length, refl};
-ghost use Rattle.ports.specs.Streams.{Beside, Takes, Puts, HasCause};
+ghost use Rattle.ports.specs.Streams.{Beside, Takes, Puts, HasCause, RisesOnce};
 ghost use Rattle.ports.specs.Memory.{counted, CountsFault, KeepsPlan, KeepsRoom};
 ghost use Rattle.ports.specs.Doors.{HandsOut, with_finished, CountsCall, CountsNone};
 
@@ -27,6 +27,7 @@ impl Source for MemEnd {
     fn take(&mut self, buf: &mut [u8]) -> Result<usize, Failed>
         ensures bytes { Takes (Some self.old.source.left) (Some self.new.source.left) buf.old buf.new result }
         ensures cause { HasCause self.old.source.faults self.new.source.faults result }
+        ensures once { RisesOnce self.old.source.faults self.new.source.faults result }
         ensures sink { self.new.sink ≡ self.old.sink }
         ensures chunk { IfOk result (λ count. count ≤ self.old.source.chunk) }
         ensures failed { IsErr result ↔ Contains self.old.source.fail (counted self.old.source.calls) }

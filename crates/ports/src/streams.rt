@@ -1,6 +1,6 @@
 //! Where bytes come from and where they go.
 ghost use Rattle.std.specs.Prelude.{◌≡◌, ℕ, List, Option};
-ghost use Rattle.ports.specs.Streams.{Aside, Takes, Puts, HasCause};
+ghost use Rattle.ports.specs.Streams.{Aside, Takes, Puts, HasCause, RisesOnce};
 
 /// A call to the outside failed, and its object's count of faults rose.
 #[derive(Clone, Copy, Debug, PartialEq, Eq)]
@@ -18,10 +18,12 @@ pub trait Source {
     ghost aside: { Self → Aside };
 
     /// Puts bytes at the front of the buffer and answers how many. 0 for a buffer that has room
-    /// means the end. `Failed` comes only where the count of faults rose.
+    /// means the end. `Failed` comes only where the count of faults rose; that rises by one at most, and
+    /// only then.
     fn take(&mut self, buf: &mut [u8]) -> Result<usize, Failed>
         ensures bytes { Takes (left self.old) (left self.new) buf.old buf.new result }
         ensures cause { HasCause (faults self.old) (faults self.new) result }
+        ensures once { RisesOnce (faults self.old) (faults self.new) result }
         ensures aside { aside self.new ≡ aside self.old };
 }
 

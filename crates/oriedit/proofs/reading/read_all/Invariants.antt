@@ -6,7 +6,7 @@ abbrev pub invariant-loop-buf : goal.invariant-loop-buf
 invariant-loop-buf g l = record {
   taken : Gave (g.S.Source.left l.fn.source) (g.S.Source.left l.source) l.bytes.items;
   within : vec_len l.bytes ≤ l.limit;
-  later : g.S.Source.faults l.fn.source ≤ g.S.Source.faults l.source;
+  no_fault : g.S.Source.faults l.source ≡ g.S.Source.faults l.fn.source;
   aside : g.S.Source.aside l.source ≡ g.S.Source.aside l.fn.source;
 }
 

@@ -11,7 +11,7 @@ invariant-loop-taken g l = record {
       (works (g.W.Sink.held l.sink) (g.K.Keeper.tables l.keeper) (g.K.Keeper.faults l.keeper));
   unfinished : IsUnfinished l.unit.bytes.items l.unit.wanted;
   within : l.taken ≤ 268435456;
-  source_faults : g.S.Source.faults l.fn.source ≤ g.S.Source.faults l.source;
+  no_fault : g.S.Source.faults l.source ≡ g.S.Source.faults l.fn.source;
   sink_faults : g.W.Sink.faults l.fn.sink ≤ g.W.Sink.faults l.sink;
   keeper_faults : g.K.Keeper.faults l.fn.keeper ≤ g.K.Keeper.faults l.keeper;
   source_aside : g.S.Source.aside l.source ≡ g.S.Source.aside l.fn.source;
