@@ -7,7 +7,7 @@ ghost use Rattle.qroot2.specs.Dir.{IsMiddle};
 ghost use Rattle.plane.specs.Triangles.{IsIncentre, IsFootBetween};
 ghost use Rattle.edits.specs.Ends.{AreJoined};
 ghost use Rattle.edits.specs.RabbitEar.{AreNotThree, AreAllJoined, IsNoMolecule, EarOf};
-ghost use Rattle.edits.specs.Foldable.{HasSides, HasOddTurn, IsFoldable, IsMolecule};
+ghost use Rattle.edits.specs.Foldable.{HasSides, HasOddTurn, IsFoldable};
 
 use crate::EditBad;
 use plane::{Point, Seg, are_in_sheet, cross_lines, in_sheet, is_on_line, is_same_point};

@@ -35,8 +35,8 @@ const LIMIT: usize = 16_777_216;
 /// summary; `serve` with a port answers requests that come there, over so many connections as the words
 /// say, one after another. Other words write the usage text. Where the words of `script` or `serve` name
 /// a path, the keeper is attached there before all else, and `KeeperFault` comes where that fails.
-/// `DoorFault` comes where the door fails. At most one take fails in a run, whatever the source does, since
-/// none follows it.
+/// `DoorFault` comes where the door fails. At most one take fails in a run, whatever the source does:
+/// none follows one that failed.
 #[tactic(auto, using(crate::proofs::FewTurns::few_turns))]
 pub fn run<S: Source, W: Sink, K: Keeper, D: Door>(
     alloc: Global,
