@@ -1,0 +1,3 @@
+-- What the crates above may cite.
+pub mod Common
+pub mod Marked
