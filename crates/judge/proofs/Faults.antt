@@ -1,31 +1,30 @@
 -- The faults of a pattern, found vertex after vertex.
-use Rattle.std.proofs.Common.{◌≡◌, ℕ, ◌+◌, ◌<◌, ◌≤◌, List, [], ◌∷◌, ◌++◌, length, get_or, refl, sym, ap, subst, ◌∙◌, ◌⊎◌, inl, inr, arith}
+use Rattle.std.proofs.Common.{◌≡◌, ℕ, ◌+◌, ◌<◌, ◌≤◌, List, [], ◌∷◌, ◌++◌, length, get_or, refl, sym, ap, subst, ◌∙◌, inl, inr, arith}
 use Rattle.std.specs.Prelude.{◌↔◌, Option, Some, None, Bool, true, false, not, IsTrue, slice_get, Contains, All, AllPairs}
 use Rattle.std.proofs.lemmas.Bool.{cases_lt}
 use Rattle.std.proofs.lemmas.List.Elements.{All-push, Contains-push, Contains-push_cases, Contains-append_left, Contains-get_or}
 use Rattle.std.proofs.lemmas.List.Quantifiers.{all_pairs_push}
 use Rattle.std.proofs.lemmas.Option.{slice_get_read, slice_get_within, get_or_from_slice_get}
-use Rattle.exact.specs.Number.{Same, Less, AtMost, whole}
+use Rattle.exact.specs.Number.{whole}
 use Rattle.exact.specs.Plane.{ExactPoint, SamePoint, Before, IsPointCanonical}
 use Rattle.exact.proofs.Order.{same_turned}
 use Rattle.exact.proofs.Told.{same_itself, less_values}
 use Rattle.sheet.specs.Sheet.{ExactSheet, IsSheet, InSheet, IsInside, OnSide}
 use Rattle.sheet.specs.Pattern.{ExactPattern, IsPattern}
-use Rattle.plane.specs.Corners.{IsEnd}
 use Rattle.plane.proofs.callers.Sides.{on_side, not_end}
 use Rattle.layers.specs.Star.{IsStar}
 use Rattle.layers.specs.declared.star.Ray.{Ray}
-use Rattle.subdivide.specs.Subdivision.{IsVertex, ExactSubdivision, Answer, CutOf, AreVertices}
+use Rattle.subdivide.specs.Subdivision.{IsVertex, AreVertices}
 use Rattle.subdivide.specs.Star.{StarOf}
 use Rattle.judge.specs.Verdict.{VerdictOf, AreOne}
-use Rattle.judge.specs.Faults.{IsInner, IsJudged, IsFault, AreFaults, ReportOf, failure_of, TellsFault}
+use Rattle.judge.specs.Faults.{IsJudged, IsFault, AreFaults, ReportOf, failure_of, TellsFault}
 use Rattle.judge.specs.declared.verdict.Why.{Why}
 use Rattle.judge.specs.declared.verdict.Verdict.{Verdict}
 use Rattle.judge.specs.declared.verdict.Verdict.TheVariants as verdict
 use Rattle.judge.specs.declared.fault.Fault.{Fault}
 use Rattle.judge.specs.declared.report.Report.{Report}
 use Rattle.judge.specs.declared.report.Report.TheVariants as report
-use Rattle.subdivide.proofs.callers.FansHeld.{some_is}
+use Rattle.subdivide.proofs.callers.Gets.{some_is}
 
 -- in the sheet and on no side: strictly inside
 pub inside : (sheet : ExactSheet) (p : ExactPoint) → IsSheet sheet → (InSheet sheet p × (¬ OnSide sheet p)) ↔ IsInside sheet p

@@ -1,5 +1,5 @@
 -- A star has one list of sectors, each with an angle of at most sixteen units.
-use Rattle.std.proofs.Common.{◌≡◌, ◌≤◌, ◌<◌, ◌+◌, ◌%◌, ℕ, arith, ap, sym, ◌∙◌, List, length}
+use Rattle.std.proofs.Common.{◌≡◌, ◌≤◌, ◌+◌, ◌%◌, ℕ, arith, ap, sym, ◌∙◌, List, length}
 use Rattle.std.proofs.lemmas.List.{ext_get_or}
 use Rattle.layers.specs.declared.star.Ray.{Ray}
 use Rattle.layers.specs.declared.sector_list.Sector.{Sector}

@@ -1,6 +1,6 @@
 -- The faults of a pattern: the vertices strictly inside the sheet that do not fold flat. And what is said of
 -- a point.
-use Rattle.std.specs.Prelude.{◌≡◌, ℕ, List, All, AllPairs, Contains, Option, Some, None}
+use Rattle.std.specs.Prelude.{◌≡◌, List, All, AllPairs, Contains, Option, Some, None}
 use Rattle.exact.specs.Plane.{ExactPoint, SamePoint, Before, IsPointCanonical}
 use Rattle.sheet.specs.Sheet.{IsInside}
 use Rattle.sheet.specs.Pattern.{ExactPattern}

@@ -1,19 +1,13 @@
 -- From the chains of the lines to the edges of a cut pattern.
-use Rattle.std.proofs.Common.{◌≡◌, ◌≢◌, ℕ, ◌<◌, List, length, get_or, Some, arith, refl, sym, ap, subst, ◌∙◌, ◌⊎◌, inl, inr}
+use Rattle.std.proofs.Common.{◌≡◌, ◌≢◌, ℕ, List, length, get_or, Some, arith, refl, sym, ap, subst, ◌∙◌, ◌⊎◌, inl, inr}
 use Rattle.std.specs.Prelude.{Contains, AllPairs, All, slice_get}
-use Rattle.std.specs.declared.cmp.Ordering.{Ordering}
-use Rattle.std.specs.declared.cmp.Ordering.TheVariants as o
-use Rattle.std.specs.Cmp.{tied_itself}
 use Rattle.std.proofs.lemmas.Bool.{cases_order}
 use Rattle.std.proofs.lemmas.List.Elements.{All-contains, All-weaker, All-get_or}
 use Rattle.std.proofs.lemmas.Option.{slice_get_within, get_or_from_slice_get, slice_get_read}
-use Rattle.exact.specs.Number.{ExactNumber}
-use Rattle.exact.specs.Order.{num_cmp}
 use Rattle.exact.specs.Plane.{ExactPoint, SamePoint, Before, ExactSegment, OnSeg, OnBoth, Cross, vector, IsPointCanonical}
 use Rattle.sheet.specs.Pattern.{ExactPattern}
 use Rattle.subdivide.specs.Subdivision.{lines, IsLine, IsVertex, IsEdge, EdgePlaces, PlacesBefore, AreVertices, AreEdges}
 use Rattle.subdivide.specs.declared.edge.EdgeKind.{EdgeKind}
-use Rattle.exact.proofs.Order.{num_exact, num_total}
 use Rattle.chains.specs.Chains.{Ascends, AreNeighbours}
 use Rattle.chains.proofs.callers.Neighbours.{neighbours_next, next_neighbours}
 use Rattle.geometry.specs.Meeting.{Along}
@@ -22,6 +16,7 @@ use Rattle.geometry.proofs.Lines.{on_trans, on_same}
 use Rattle.geometry.proofs.Segments.{on_line, on_seg, end_p, end_q}
 use Rattle.geometry.proofs.PointOrder.{point_real_cmp, points_total, before_cmp, before_not_same, same_back, same_before, before_same, ordered, same_trans}
 use Rattle.creases.proofs.callers.Members.{segment_or_not}
+use Rattle.subdivide.proofs.callers.Gets.{some_is}
 
 -- another triple of a point of a segment is on it
 pub on_seg_moved : (s : ExactSegment) (k : ℕ) (r w : ExactPoint) → Along s k → SamePoint r w → OnSeg r s → OnSeg w s
@@ -100,7 +95,7 @@ one_place_of vs up u x i j e f s = elim (cases_order i j) [
   ]
 ]
 
-place_of : (vs : List ExactPoint) (x : ExactPoint) → Contains vs x → (i : ℕ) × (slice_get vs i ≡ Some x)
+pub place_of : (vs : List ExactPoint) (x : ExactPoint) → Contains vs x → (i : ℕ) × (slice_get vs i ≡ Some x)
 place_of vs x c = (c.0, slice_get_read vs (length vs) c.0 x refl c.1 (sym c.2))
 
 -- one edge has one kind
@@ -109,16 +104,33 @@ one_kind pattern l u v k j e f = (let s = e.line.0 in let t = f.line.0 in
     let q = l.apart s t (k, e.line.1) (j, f.line.1) (u, v, before_not_same u v e.ordered, (e.line.2, f.line.2), (e.line.3, f.line.3)) in
     l.kinds s k j e.line.1 (subst (λ z. Contains (lines pattern) (record { seg = z; kind = j })) (sym q) f.line.1))
 
-abbrev EdgeIn : ExactPattern → List ExactPoint → EdgePlaces → Type 0
+-- an edge between the vertices at its places
+abbrev pub EdgeIn : ExactPattern → List ExactPoint → EdgePlaces → Type 0
 EdgeIn pattern vs e = (u v : ExactPoint) × (slice_get vs e.from ≡ Some u) × (slice_get vs e.to ≡ Some v) × IsEdge pattern u v e.kind
 
 abbrev StepIn : ExactPattern → List ExactPoint → EdgePlaces → Type 0
 StepIn pattern vs e = (u v : ExactPoint) × (slice_get vs e.from ≡ Some u) × (slice_get vs e.to ≡ Some v) × IsStep pattern e.kind u v
 
+-- no two edges differ in their kinds alone
+pub edges_ascend : (pattern : ExactPattern) (vs : List ExactPoint) (es : List EdgePlaces) → AreLines pattern → All (EdgeIn pattern vs) es → AllPairs KindedBefore es → AllPairs PlacesBefore es
+edges_ascend pattern vs es l each up i j d p q = strict (up i j d p q)
+  where
+    kinds : (e f : EdgePlaces) → e.from ≡ f.from → e.to ≡ f.to → EdgeIn pattern vs e → EdgeIn pattern vs f → e.kind ≡ f.kind
+    kinds e f a b x y = one_kind pattern l x.0 x.1 e.kind f.kind x.4 (subst2 y.0 x.0 y.1 x.1 f.kind (some_is (sym y.2 ∙ ap (slice_get vs) (sym a) ∙ x.2)) (some_is (sym y.3 ∙ ap (slice_get vs) (sym b) ∙ x.3)) y.4)
+      where
+        subst2 : (s s' t t' : ExactPoint) (k : EdgeKind) → s ≡ s' → t ≡ t' → IsEdge pattern s t k → IsEdge pattern s' t' k
+        subst2 s s' t t' k a b h = rw (← a, ← b) h
+
+    strict : KindedBefore (get_or es i d) (get_or es j d) → PlacesBefore (get_or es i d) (get_or es j d)
+    strict h = elim h [
+      | inl b ↦ b
+      | inr t ↦ absurd (t.2 (kinds (get_or es i d) (get_or es j d) t.0 t.1 (All-get_or (EdgeIn pattern vs) es i d (omega arith) each) (All-get_or (EdgeIn pattern vs) es j d q each)))
+    ]
+
 -- what the loops leave are the edges
 pub edges_of_steps : (pattern : ExactPattern) (vs : List ExactPoint) (es : List EdgePlaces) → AreLines pattern → AreVertices pattern vs → AreSteps pattern vs es → AreEdges pattern vs es
 edges_of_steps pattern vs es l a s = record {
-  ordered = λ i j d p q. strict i j d p q (s.ordered i j d p q);
+  ordered = edges_ascend pattern vs es l each_edge s.ordered;
   each = each_edge;
   all = λ i j u v k e f g. (let c = s.all g.line.0 k g.line.1 in
       let x = step_of_edge pattern g.line.0 c.0 u v c.1 g.from g.to g.ordered g.line.2 g.line.3 g.line.4 in
@@ -134,23 +146,8 @@ edges_of_steps pattern vs es l a s = record {
     moved : (i j m r : ℕ) (k : EdgeKind) → i ≡ m → j ≡ r → Contains es (record { from = m; to = r; kind = k }) → Contains es (record { from = i; to = j; kind = k })
     moved i j m r k e f c = rw (e, f) c
 
-    strict : (i j : ℕ) (d : EdgePlaces) → i < j → j < length es → KindedBefore (get_or es i d) (get_or es j d) → PlacesBefore (get_or es i d) (get_or es j d)
-    strict i j d p q h = elim h [
-      | inl b ↦ b
-      | inr t ↦ absurd (t.2 (kinds (get_or es i d) (get_or es j d) t.0 t.1 (All-get_or (EdgeIn pattern vs) es i d (omega arith) each_edge) (All-get_or (EdgeIn pattern vs) es j d q each_edge)))
-    ]
-      where
-        kinds : (e f : EdgePlaces) → e.from ≡ f.from → e.to ≡ f.to → EdgeIn pattern vs e → EdgeIn pattern vs f → e.kind ≡ f.kind
-        kinds e f a b x y = one_kind pattern l x.0 x.1 e.kind f.kind x.4 (subst2 y.0 x.0 y.1 x.1 f.kind (some_is (sym y.2 ∙ ap (slice_get vs) (sym a) ∙ x.2)) (some_is (sym y.3 ∙ ap (slice_get vs) (sym b) ∙ x.3)) y.4)
-          where
-            some_is : {s t : ExactPoint} → Some s ≡ Some t → s ≡ t
-            some_is e = cc
-
-            subst2 : (s s' t t' : ExactPoint) (k : EdgeKind) → s ≡ s' → t ≡ t' → IsEdge pattern s t k → IsEdge pattern s' t' k
-            subst2 s s' t t' k a b h = rw (← a, ← b) h
-
 -- each vertex is on a line
-on_some_line : (pattern : ExactPattern) → AreLines pattern → (v : ExactPoint) → IsVertex pattern v → (s : ExactSegment) × IsLine pattern s × OnSeg v s
+pub on_some_line : (pattern : ExactPattern) → AreLines pattern → (v : ExactPoint) → IsVertex pattern v → (s : ExactSegment) × IsLine pattern s × OnSeg v s
 on_some_line pattern l v x = elim x [
   | inl c ↦ (let t = l.corner c.0 c.1 in ended t.0 t.1 (elim t.2 [ inl e ↦ inl (subst (SamePoint v) e c.2) | inr e ↦ inr (subst (SamePoint v) e c.2) ]))
   | inr y ↦ elim y [
@@ -191,21 +188,3 @@ vertex_moved pattern l u v e h = elim h [
   where
     moved : (s : ExactSegment) → IsLine pattern s → OnSeg u s → OnSeg v s
     moved s a o = (let w = l.along s a in on_seg_moved s w.0 u v w.1 e o)
-
--- a chain from the points that `meet` gives: the ends, and one point for each line that crosses
-pub chain_of_points : (pattern : ExactPattern) → AreLines pattern → (s : ExactSegment) (chain : List ExactPoint) → IsLine pattern s → AllPairs Before chain
-    → All (IsFound pattern s) chain → ((v : ExactPoint) → IsFound pattern s v → (w : ExactPoint) × Contains chain w × SamePoint v w) → IsChain pattern s chain
-chain_of_points pattern l s chain a up e k = record {
-  ordered = up;
-  each = All-weaker (IsFound pattern s) (λ v. IsVertex pattern v × OnSeg v s) (λ v h. elim h [
-    | inl x ↦ (vertex_moved pattern l s.p v (same_back v s.p x) (l.end s a).0, on_seg_moved s w.0 s.p v w.1 (same_back v s.p x) (end_p s w.0 w.1))
-    | inr y ↦ elim y [
-      | inl x ↦ (vertex_moved pattern l s.q v (same_back v s.q x) (l.end s a).1, on_seg_moved s w.0 s.q v w.1 (same_back v s.q x) (end_q s w.0 w.1))
-      | inr x ↦ (inr (inr (s, x.0, a, x.1, x.2)), x.2.here.0)
-    ]
-  ]) chain e;
-  all = λ v h o. k v (found pattern l s v a h o);
-}
-  where
-    w : (k : ℕ) × Along s k
-    w = l.along s a

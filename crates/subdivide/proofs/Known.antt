@@ -8,6 +8,7 @@ use Rattle.exact.specs.Plane.{ExactPoint, SamePoint, Before}
 use Rattle.sheet.specs.Pattern.{ExactPattern}
 use Rattle.geometry.proofs.PointOrder.{before_not_back, before_not_same, same_itself}
 use Rattle.subdivide.specs.Subdivision.{AreVertices, AreEdges, EdgePlaces, IsEdge, IsSubdivision}
+use Rattle.subdivide.proofs.callers.Gets.{some_is}
 
 -- points in order stand at places in order
 pub places_rise : (vs : List ExactPoint) → AllPairs Before vs → (u v : ExactPoint) (i j : ℕ) → slice_get vs i ≡ Some u → slice_get vs j ≡ Some v → Before u v → i < j
@@ -18,9 +19,6 @@ places_rise vs up u v i j e f b = elim (cases_order i j) [
     | inr g ↦ absurd (before_not_back u v b (subst (λ z. Before z u) (get_or_from_slice_get vs j v u f) (subst (λ z. Before (get_or vs j u) z) (get_or_from_slice_get vs i u u e) (up j i u g (slice_get_within vs i u e)))))
   ]
 ]
-  where
-    some_is : {s t : ExactPoint} → Some s ≡ Some t → s ≡ t
-    some_is e = cc
 
 abbrev EdgeIn : ExactPattern → List ExactPoint → EdgePlaces → Type 0
 EdgeIn pattern vs e = (u v : ExactPoint) × (slice_get vs e.from ≡ Some u) × (slice_get vs e.to ≡ Some v) × IsEdge pattern u v e.kind

@@ -1,20 +1,20 @@
 pub mod callers
 pub mod PatternLines
 pub mod Cutting
-mod Extents
-mod Sided
-mod Ordered
-mod Reached
-mod Crossings
 mod Points
 mod SideRange
-mod LinePlaces
-mod Refusal
-mod Whole
-mod ChainAmong
-mod Gathered
-mod Steps
-mod ChainEdges
+mod Touched
+mod Noted
+mod Taken
+mod Finished
+mod Listed
+mod SweptLines
+mod SweptVertices
+mod SweptEdges
+mod SweptAnswer
+mod Standing
+mod Ranked
+mod Stepped
 mod Known
 pub mod FanRays
 pub mod Rays

@@ -1,19 +1,19 @@
 -- What one edge adds to the rays of the vertices, and what all edges have given in the end.
-use Rattle.std.proofs.Common.{◌≡◌, ◌≢◌, ℕ, ◌+◌, ◌%◌, ◌<◌, ◌≤◌, List, length, get_or, set, refl, sym, ap, subst, ◌∙◌, ◌⊎◌, inl, inr, arith}
-use Rattle.std.specs.Prelude.{◌↔◌, Some, slice_get}
+use Rattle.std.proofs.Common.{◌≡◌, ◌≢◌, ℕ, ◌+◌, ◌%◌, ◌<◌, List, length, get_or, set, refl, sym, ap, subst, ◌∙◌, ◌⊎◌, inl, inr, arith}
+use Rattle.std.specs.Prelude.{Some, slice_get}
 use Rattle.std.proofs.lemmas.Bool.{cases_order}
 use Rattle.std.proofs.lemmas.List.{get_or-set_same, get_or-set_other, get_or_default}
-use Rattle.std.proofs.lemmas.Option.{get_or_from_slice_get, slice_get_read}
 use Rattle.std.proofs.Math.ListN.{length-set}
-use Rattle.exact.specs.Plane.{ExactPoint, ExactSegment, DirOf, IsSegment}
+use Rattle.exact.specs.Plane.{ExactPoint, DirOf}
 use Rattle.sheet.specs.declared.mark.Mark.{Mark}
 use Rattle.layers.specs.declared.star.Ray.{Ray}
 use Rattle.geometry.proofs.Leads.{opposite_dir}
-use Rattle.subdivide.specs.Subdivision.{EdgePlaces, ExactSubdivision}
+use Rattle.subdivide.specs.Subdivision.{EdgePlaces}
 use Rattle.subdivide.specs.Star.{marked_kind}
-use Rattle.subdivide.specs.Fans.{HasRay, IsWithRay, IsJoined, Gives, IsNoted, IsGiven, HoldRays}
+use Rattle.subdivide.specs.Fans.{HasRay, IsWithRay, IsJoined, Gives, IsNoted}
 use Rattle.subdivide.specs.declared.stars.Fan.{Fan}
 use Rattle.subdivide.proofs.Rays.{one_marked}
+use Rattle.subdivide.proofs.callers.Gets.{some_is}
 
 abbrev pub ray : ℕ → Mark → Ray
 ray k m = record { dir = k; mark = m }
@@ -39,9 +39,6 @@ pub record AreEnds (vs : List ExactPoint) (e : EdgePlaces) (mark : Mark) (dir : 
   pub leads : DirOf u v dir
   pub small : dir < 16
   pub only : (k : ℕ) → k < 16 → DirOf u v k → k ≡ dir
-
-some_is : {p q : ExactPoint} → Some p ≡ Some q → p ≡ q
-some_is e = cc
 
 gives_from : (vs : List ExactPoint) (e : EdgePlaces) (mark : Mark) (dir : ℕ) (u v : ExactPoint) → AreEnds vs e mark dir u v → Gives vs e e.from (ray dir mark)
 gives_from vs e mark dir u v a = record {

@@ -5,7 +5,7 @@ use Rattle.std.proofs.lemmas.Bool.{cases_order}
 use Rattle.std.proofs.lemmas.List.Elements.{Contains-append_cases, Contains-append_left, Contains-append_right, Contains-get_or, All-contains}
 use Rattle.std.proofs.lemmas.List.{get_or-map, length-map, get_or_default}
 use Rattle.exact.specs.Number.{ExactNumber, Same, whole}
-use Rattle.exact.specs.Plane.{ExactPoint, SamePoint, ExactSegment, OnSeg, Overlap, vector}
+use Rattle.exact.specs.Plane.{ExactPoint, ExactSegment, OnSeg, Overlap, vector}
 use Rattle.sheet.specs.Sheet.{ExactSheet, IsLength, IsSheet, IsCorner, end_at, sides, corner, InSheet, OnBorder}
 use Rattle.sheet.specs.Pattern.{ExactCrease, ExactPattern, IsPattern, IsKey}
 use Rattle.subdivide.specs.Subdivision.{Line, lines, kind_of, IsLine, IsVertex}
@@ -24,7 +24,7 @@ use Rattle.geometry.proofs.PointOrder.{before_not_same, same_itself as point_sel
 use Rattle.geometry.proofs.Lines.{On, on_trans}
 use Rattle.geometry.proofs.Segments.{one_common, none_common, ahead, end_on, end_p, end_q, covered}
 use Rattle.exact.proofs.Order.{same_turned}
-use Rattle.exact.proofs.Told.{same_itself, same_on, less_not_same}
+use Rattle.exact.proofs.Told.{same_on, less_not_same}
 use Rattle.plane.proofs.callers.Sides.{SideCase, side_case, upright, flat, upright_in, flat_in, upright_along, flat_along, on_upright, on_flat, of_upright, of_flat, zero_less}
 use Rattle.creases.proofs.callers.Overlaps.{overlap_back}
 

@@ -1,10 +1,7 @@
 -- The order of the program's points, which are in lowest terms, is that of their places.
-use Rattle.std.proofs.Common.{◌≡◌, ℕ, ◌<◌, List, length, get_or, refl, ◌⊎◌, inl, inr, arith}
-use Rattle.std.specs.Prelude.{Contains, All, AllPairs}
-use Rattle.std.specs.declared.cmp.Ordering.{Ordering}
-use Rattle.std.specs.declared.cmp.Ordering.TheVariants as o
-use Rattle.std.specs.Ordering.{ordering_then}
-use Rattle.std.proofs.lemmas.List.Elements.{All-get_or, All-weaker, All-contains_itself}
+use Rattle.std.proofs.Common.{ℕ, ◌<◌, List, length, get_or, arith}
+use Rattle.std.specs.Prelude.{All, AllPairs}
+use Rattle.std.proofs.lemmas.List.Elements.{All-get_or}
 use Rattle.exact.specs.Plane.{ExactPoint, SamePoint, Before, IsPointCanonical, IsPointRepresentable}
 use Rattle.chains.specs.Chains.{Ascends}
 use Rattle.plane.specs.Order.{point_cmp}

@@ -1,8 +1,7 @@
 -- The edges that leave a vertex: two in one direction have one mark, and all of it holds of the same points by other numbers.
-use Rattle.std.proofs.Common.{◌≡◌, ℕ, ◌+◌, ◌%◌, ◌<◌, List, sym, ap, subst, refl, ◌∙◌, ◌⊎◌, inl, inr, arith}
-use Rattle.std.specs.Prelude.{Contains, All}
+use Rattle.std.proofs.Common.{◌≡◌, ℕ, ◌+◌, ◌%◌, ◌<◌, List, sym, subst, refl, inl, inr, arith}
 use Rattle.std.proofs.lemmas.List.Elements.{All-weaker}
-use Rattle.exact.specs.Plane.{ExactPoint, SamePoint, Before, DirOf, ExactSegment, OnSeg, IsSegment, vector}
+use Rattle.exact.specs.Plane.{ExactPoint, SamePoint, Before, DirOf, ExactSegment, vector}
 use Rattle.sheet.specs.Pattern.{ExactPattern}
 use Rattle.sheet.specs.declared.mark.Mark.{Mark}
 use Rattle.sheet.specs.declared.mark.Mark.TheVariants as mark
@@ -13,7 +12,7 @@ use Rattle.geometry.proofs.Segments.{on_line, on_seg, end_on}
 use Rattle.geometry.proofs.Parts.{part_along}
 use Rattle.geometry.proofs.Found.{one_along}
 use Rattle.geometry.proofs.Leads.{opposite_dir, not_both_ways, dir_moved}
-use Rattle.geometry.proofs.PointOrder.{before_trans, same_before, before_same, same_back, same_itself, same_trans, ordered}
+use Rattle.geometry.proofs.PointOrder.{before_trans, same_before, before_same, same_back, same_itself, ordered}
 use Rattle.subdivide.specs.Subdivision.{IsVertex, IsEdge}
 use Rattle.subdivide.specs.Chain.{AreLines}
 use Rattle.subdivide.specs.Star.{marked_kind, GoesOut, StarOf}

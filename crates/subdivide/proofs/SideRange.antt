@@ -1,31 +1,38 @@
 -- A line of a pattern meets a side of the sheet only in an end of its own, which can be held.
-use Rattle.std.proofs.Common.{◌≡◌, ℕ, zero, suc, ◌%◌, ◌<◌, [], ◌∷◌, refl, sym, ap, subst, ◌∙◌, ◌⊎◌, inl, inr, arith}
+use Rattle.std.proofs.Common.{◌≡◌, ℕ, zero, suc, ◌%◌, ◌<◌, [], refl, sym, ap, subst, ◌∙◌, ◌⊎◌, inl, inr, arith}
 use Rattle.std.specs.Prelude.{Contains}
 use Rattle.exact.specs.Number.{Less, whole, sub}
 use Rattle.exact.specs.Plane.{ExactPoint, SamePoint, ExactSegment, OnSeg, OnBoth, Cross, Overlap, vector, IsPointCanonical, IsPointRepresentable}
 use Rattle.exact.proofs.Order.{linear}
-use Rattle.geometry.specs.Root.{Root, plus, times, minus, count, Above}
+use Rattle.geometry.specs.Root.{minus, count, Above}
 use Rattle.geometry.specs.Gap.{num, dn, gx, gy, cross}
 use Rattle.geometry.specs.Meeting.{Along, SameSide}
-use Rattle.geometry.proofs.Solve.{at, none, one, add, mul, opp, solve}
+use Rattle.geometry.proofs.Solve.{none, opp, solve}
 use Rattle.geometry.proofs.Domain.{above_times, above_not_minus, above_not_zero, sign_of}
 use Rattle.geometry.proofs.Gap.{dn_above, less_num}
 use Rattle.geometry.proofs.Directions.{right_half, one_direction}
 use Rattle.geometry.proofs.Lines.{On, cross_back, minus_minus}
-use Rattle.geometry.proofs.Plain.{flat_on, upright_on, upright_cross}
+use Rattle.geometry.proofs.Plain.{flat_on, flat_cross, upright_on, upright_cross}
 use Rattle.geometry.proofs.PointOrder.{ordered, before_not_same, same_back, same_trans}
 use Rattle.geometry.proofs.Segments.{beside, none_common, end_p, end_q, ahead}
 use Rattle.plane.proofs.callers.Sides.{SideCase, side_case, upright, flat, upright_along, flat_along, at_least, at_most, corner_canonical, corner_in}
 use Rattle.sheet.specs.Sheet.{ExactSheet, IsSheet, corner, sides, InSheet}
 use Rattle.sheet.specs.Pattern.{ExactPattern, IsPattern, IsKey}
 use Rattle.subdivide.specs.Subdivision.{IsLine}
-use Rattle.subdivide.proofs.Extents.{higher, lower}
 use Rattle.subdivide.proofs.PatternLines.{LineCase, line_case, at_upright_line, at_flat_line, parallel_or_not, key_of, line_along, lines_apart}
 use Rattle.subdivide.proofs.Points.{same_held}
 
 righter : (p r : ExactPoint) → Less p.x r.x → Above (minus (cross (vector 4) p r))
 unfolding gx
 righter p r h = subst Above (sym (ap minus (upright_cross p r) ∙ minus_minus _)) (above_times (num (sub r.x p.x)) (dn (sub r.y p.y)) ((less_num p.x r.x).0 h) (dn_above (sub r.y p.y)))
+
+-- a higher point is on the left of the way to the right
+higher : (p r : ExactPoint) → Less p.y r.y → Above (cross (vector 0) p r)
+unfolding gy
+higher p r h = subst Above (sym (flat_cross p r)) (above_times (num (sub r.y p.y)) (dn (sub r.x p.x)) ((less_num p.y r.y).0 h) (dn_above (sub r.x p.x)))
+
+lower : (p r : ExactPoint) → Less r.y p.y → Above (minus (cross (vector 0) p r))
+lower p r h = subst Above (cross_back (vector 0) p r) (higher r p h)
 
 lefter : (p r : ExactPoint) → Less r.x p.x → Above (cross (vector 4) p r)
 lefter p r h = subst Above (sym (cross_back (vector 4) r p)) (righter r p h)
@@ -124,7 +131,7 @@ side_end sheet u t k j v b a x y n o = elim (on_line_or_not k u.p t.p) [
 ]
 
 -- the ends of a line can be held and are in the sheet
-record HasEnds (sheet : ExactSheet) (t : ExactSegment) : Type 0 where
+pub record HasEnds (sheet : ExactSheet) (t : ExactSegment) : Type 0 where
   pub from : IsPointCanonical t.p
   pub to : IsPointCanonical t.q
   pub from_in : InSheet sheet t.p
@@ -147,7 +154,7 @@ side_ends sheet s good (SideCase.at_flat i h e) = subst (HasEnds sheet) (sym e) 
 key_ends : (sheet : ExactSheet) (s : ExactSegment) → IsKey sheet s → HasEnds sheet s
 key_ends sheet s h = record { from = h.from; to = h.to; from_in = h.from_in; to_in = h.to_in }
 
-line_has_ends : (pattern : ExactPattern) → IsPattern pattern → (t : ExactSegment) → IsLine pattern t → HasEnds pattern.sheet t
+pub line_has_ends : (pattern : ExactPattern) → IsPattern pattern → (t : ExactSegment) → IsLine pattern t → HasEnds pattern.sheet t
 line_has_ends pattern p t l = by (line_case pattern t l.0 l.1)
   where
     by : LineCase pattern t l.0 → HasEnds pattern.sheet t

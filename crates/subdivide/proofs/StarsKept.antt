@@ -1,6 +1,6 @@
 -- The star of a vertex, as a kept pattern has it.
-use Rattle.std.proofs.Common.{◌≡◌, ℕ, ◌<◌, List, length, get_or, refl, sym, ap, subst, ◌∙◌, arith}
-use Rattle.std.specs.Prelude.{◌↔◌, Some, Contains, All, AllPairs, slice_get}
+use Rattle.std.proofs.Common.{◌≡◌, ℕ, ◌<◌, List, length, get_or, refl, sym, subst, arith}
+use Rattle.std.specs.Prelude.{Some, Contains, All, AllPairs, slice_get}
 use Rattle.std.proofs.lemmas.List.Elements.{All-contains, All-get_or}
 use Rattle.std.proofs.lemmas.Option.{slice_get_read}
 use Rattle.exact.specs.Plane.{ExactPoint, Before, IsPointCanonical}
@@ -9,7 +9,7 @@ use Rattle.layers.specs.declared.star.Ray.{Ray}
 use Rattle.chains.specs.Chains.{Ascends}
 use Rattle.plane.specs.Order.{point_cmp}
 use Rattle.plane.proofs.callers.Orders.{point_less, point_unique}
-use Rattle.subdivide.specs.Subdivision.{IsVertex, ExactSubdivision, AreVertices}
+use Rattle.subdivide.specs.Subdivision.{IsVertex, ExactSubdivision}
 use Rattle.subdivide.specs.Star.{GoesOut, StarOf}
 use Rattle.subdivide.specs.Live.{IsCut}
 use Rattle.subdivide.specs.Fans.{HasRay, AreRaysOf, IsLive}

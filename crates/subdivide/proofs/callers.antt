@@ -1,4 +1,5 @@
 -- What the crates above may cite.
 pub mod OneAnswer
+pub mod Gets
 pub mod Range
 pub mod FansHeld

@@ -1,10 +1,12 @@
 pub mod Subdivision
 pub mod Chain
-pub mod Crossings
-pub mod Strips
-pub mod Gathered
-pub mod Steps
 pub mod Lines
+pub mod Touch
+pub mod Found
+pub mod Strips
+pub mod Ranks
+pub mod Edges
+pub mod Whole
 pub mod CutAnswers
 pub mod Star
 pub mod Live

@@ -1,5 +1,5 @@
 -- The star of a vertex: its mountain and valley edges, each by its direction away from the vertex.
-use Rattle.std.specs.Prelude.{ℕ, ◌<◌, ◌⊎◌, List, All, Contains}
+use Rattle.std.specs.Prelude.{◌<◌, ◌⊎◌, List, All, Contains}
 use Rattle.exact.specs.Plane.{ExactPoint, DirOf}
 use Rattle.sheet.specs.Pattern.{ExactPattern}
 use Rattle.sheet.specs.declared.mark.Mark.{Mark}

@@ -1,22 +1,22 @@
-//! A pattern is cut line after line: the chain of each, then all points once, then all edges.
+//! A pattern is cut in one sweep over its lines: first all points, then the vertices, then the edges.
 
-ghost use Rattle.std.specs.Prelude.{◌≡◌, IfOk, IfErr, length};
-ghost use Rattle.subdivide.specs.Crossings.{IsChainAmong, RefusesChain};
-ghost use Rattle.subdivide.specs.Strips.{AreStrips};
+ghost use Rattle.std.specs.Prelude.{◌≡◌, IfOk, slice_get, Some};
 ghost use Rattle.sheet.specs.Pattern.{ExactPattern};
 ghost use Rattle.ports.specs.Stops.{Answers};
 ghost use Rattle.subdivide.specs.Subdivision.{IsSubdivision};
-ghost use Rattle.subdivide.specs.Gathered.{IsGathered};
-ghost use Rattle.subdivide.specs.Lines.{AreLinesOf, RefusesLines};
+ghost use Rattle.subdivide.specs.Lines.{AreLinesOf};
+ghost use Rattle.subdivide.specs.Found.{IsOut};
+ghost use Rattle.subdivide.specs.Whole.{IsAllFound};
 ghost use Rattle.subdivide.specs.CutAnswers.{IsCutAnswer};
+ghost use Rattle.subdivide.specs.declared.line.MarkedLine.{MarkedLine as ALine};
 
-use crate::chain::chain_of;
-use crate::edges::edges_of;
-use crate::gather::{Chain, Gathered};
-use crate::line::Line;
+use crate::edges::{edges_of, rank_cuts};
+use crate::found::{Cut, Found, Pair};
+use crate::line::MarkedLine;
 use crate::lines::lines_of;
-use crate::strips::{Held, reached, strips_of};
-use crate::{CutBad, Edge};
+use crate::ranks::ranked;
+use crate::sweep::sweep;
+use crate::{CutBad, Edge, VERTEX_LIMIT};
 use pattern::Pattern;
 use plane::Point;
 use ports::{NoMemory, Stop};
@@ -80,64 +80,59 @@ impl Subdivision {
     }
 }
 
-/// The vertices on a line, with the kind of the edges between them.
-fn chain(
-    alloc: Global,
-    held: &[Held],
-    lines: &[Line],
-    line: &Line,
-    places: &mut Vec<usize>,
-) -> Result<Chain, Stop<CutBad>>
-    requires { AreStrips lines.now held.now }
-    ensures ok { IfOk result
-        (λ chain. (chain.kind ≡ line.now.kind) × IsChainAmong line.now.seg lines.now chain.points.items) }
-    ensures err { IfErr result (λ e. RefusesChain line.now.seg lines.now e) }
-{
-    reached(held, lines, line.seg(), places)?;
-    let points = chain_of(alloc, line.seg(), lines, places)?;
-    Ok(Chain {
-        kind: line.kind(),
-        points,
-    })
-}
-
-/// The chains of all lines, which are the sides and then the creases, ascending.
-fn gather(alloc: Global, lines: &[Line]) -> Result<Gathered, Stop<CutBad>>
-    ensures ok { IfOk result (λ g. IsGathered lines.now (length lines.now) g) }
-    ensures err { IfErr result (λ e. RefusesLines lines.now e) }
-{
-    let held = strips_of(alloc, lines)?;
-    let mut gathered = Gathered::new(alloc);
-    let mut places = Vec::new(alloc);
-    for line in lines {
-        gathered.add(chain(alloc, &held, lines, line, &mut places)?)?;
-    }
-    Ok(gathered)
-}
-
-/// The vertices and edges of a pattern that has these lines, the sides and then the creases.
-fn cut(alloc: Global, lines: &[Line]) -> Result<Subdivision, Stop<CutBad>>
+/// The vertices and edges of a pattern that has these lines.
+fn cut(alloc: Global, lines: &[MarkedLine]) -> Result<Subdivision, Stop<CutBad>>
     requires { (pattern : ExactPattern) × AreLinesOf pattern lines.now }
     ensures { (pattern : ExactPattern) → AreLinesOf pattern lines.now → Answers (IsCutAnswer pattern) result }
 {
-    let mut gathered = gather(alloc, lines)?;
-    gathered.close();
-    if gathered.too_many {
+    let found = sweep(alloc, lines)?;
+    if let Some(pair) = found.least {
+        return Err(Stop::Why(out_of_range(lines, pair)));
+    }
+    if found.full {
         return Err(Stop::Why(CutBad::TooManyVertices));
     }
-    let edges = edges_of(alloc, &gathered.points, &gathered.chains)?;
-    let Gathered {
-        chains: _,
-        points,
-        ..
-    } = gathered;
-    Ok(Subdivision::new(points, edges))
+    let Found { points, cuts, .. } = found;
+    assemble(alloc, lines, &points, cuts)
+}
+
+/// The refusal of a pair of lines.
+fn out_of_range(lines: &[MarkedLine], pair: Pair) -> CutBad
+    requires { IsOut lines.now pair }
+    ensures { (l m : ALine) → slice_get lines.now pair.first ≡ Some l → slice_get lines.now pair.second ≡ Some m
+        → result ≡ CutBad.CrossRange l.seg m.seg }
+{
+    CutBad::CrossRange {
+        first: lines[pair.first as usize].seg,
+        second: lines[pair.second as usize].seg,
+    }
+}
+
+/// The vertices and edges by the points and cuts that were found, if there are not too many.
+fn assemble(
+    alloc: Global,
+    lines: &[MarkedLine],
+    points: &[Point],
+    cuts: Vec<Cut>,
+) -> Result<Subdivision, Stop<CutBad>>
+    requires { (pattern : ExactPattern) × IsAllFound pattern lines.now points.now cuts.items }
+    ensures { (pattern : ExactPattern) → IsAllFound pattern lines.now points.now cuts.items
+        → Answers (IsCutAnswer pattern) result }
+{
+    let mut cuts = cuts;
+    let (vertices, ranks) = ranked(alloc, points)?;
+    if vertices.len() > VERTEX_LIMIT {
+        return Err(Stop::Why(CutBad::TooManyVertices));
+    }
+    rank_cuts(&mut cuts, &ranks);
+    let edges = edges_of(alloc, lines, &cuts)?;
+    Ok(Subdivision::new(vertices, edges))
 }
 
 /// Cuts a pattern at all points where its creases and the sides of the sheet cross.
 ///
-/// Each line is met with those that stand near it by direction and from right to left, and all that
-/// is found is sorted.
+/// The lines are taken from left to right, and each is met with those before it that stand near it; then
+/// all that is found is sorted.
 ///
 /// # Errors
 ///

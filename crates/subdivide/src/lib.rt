@@ -1,18 +1,22 @@
 //! A crease pattern cut at its crossings into vertices and edges.
 #![tactic(auto)]
 
-mod chain;
+mod bands;
 mod cut;
+mod early;
 mod edge;
 mod edges;
-mod gather;
+mod found;
 mod laws;
 mod line;
 mod lines;
 mod live;
 mod plan;
+mod ranks;
 mod stars;
 mod strips;
+mod sweep;
+mod touch;
 
 pub use cut::{Subdivision, scratch};
 pub use edge::{CutBad, Edge, EdgeKind, VERTEX_LIMIT};

@@ -1,116 +1,65 @@
-//! A line of a pattern, and what two lines have in common.
+//! A line of a pattern with what tells it from others: its direction, and the marks of its ends.
 
-ghost use Rattle.std.specs.Prelude.{◌≡◌, ◌<◌, IsTrue, ◌↔◌};
-ghost use Rattle.exact.specs.Number.{Less};
-ghost use Rattle.exact.specs.Plane.{ExactPoint, IsSegment, OnBoth};
-ghost use Rattle.plane.specs.Meets.{Meets, HasCanonicalPoints};
-ghost use Rattle.subdivide.specs.Crossings.{LiesBelow, AreBeside, AreAtHeights};
+ghost use Rattle.std.specs.Prelude.{◌≡◌, ◌<◌, ◌≤◌, ◌^◌};
+ghost use Rattle.subdivide.specs.Lines.{IsMarkedBy, end_at as end_of, mark_at};
 
 use crate::EdgeKind;
-use plane::{Meet, Seg, meet};
-use ports::Steps;
-use qroot2::Num;
-use std::marker::{Brand, Model};
-use std::sync::ledger::{Blank, Ledger};
+use forms::Marks;
+use plane::{Point, Seg};
+use qroot2::Dir;
 
-/// A side of the sheet or a crease, with the kind of the edges on it.
+/// An end of a segment.
 #[derive(Clone, Copy)]
-pub struct Line {
-    seg: Seg,
-    kind: EdgeKind,
+pub enum End {
+    Lesser,
+    Greater,
 }
 
-impl Model for Line {
-    ghost use Rattle.subdivide.specs.Subdivision.{Line as ALine};
-
-    ghost Value = { ALine };
-
-    ghost view = { λ s. record { seg = s.seg; kind = s.kind } };
-
-    ghost inverse = { λ v. record { seg = v.seg; kind = v.kind } };
+/// A side of the sheet or a crease, with the kind of the edges on it, its direction, and the marks of
+/// its ends.
+#[derive(Clone, Copy)]
+pub struct MarkedLine {
+    pub seg: Seg,
+    pub kind: EdgeKind,
+    pub dir: Dir,
+    pub lesser: Marks,
+    pub greater: Marks,
 }
 
-impl Line {
-    pub fn new(seg: Seg, kind: EdgeKind) -> Line
-        ensures { result ≡ record { seg = seg; kind = kind } }
+impl MarkedLine {
+    pub fn new(scale: u64, seg: Seg, kind: EdgeKind) -> MarkedLine
+        requires { scale ≤ 2 ^ 32 }
+        ensures seg { result.seg ≡ seg }
+        ensures kind { result.kind ≡ kind }
+        ensures marked { IsMarkedBy scale result }
     {
-        Line { seg, kind }
-    }
-
-    pub fn seg(&self) -> &Seg
-        ensures { result.now ≡ self.now.seg }
-    {
-        &self.seg
-    }
-
-    pub fn kind(&self) -> EdgeKind
-        ensures { result ≡ self.now.kind }
-    {
-        self.kind
+        MarkedLine {
+            seg,
+            kind,
+            dir: seg.dir(),
+            lesser: Marks::of(scale, &seg.p()),
+            greater: Marks::of(scale, &seg.q()),
+        }
     }
 }
 
-/// Whether x is below y.
-fn is_less(x: &Num, y: &Num) -> bool
-    ensures { IsTrue result ↔ Less x.now y.now }
+/// The mark of an end of a line in a row.
+pub fn mark(line: &MarkedLine, end: End, row: usize) -> i32
+    requires { row < 8 }
+    ensures { result ≡ mark_at line.now end row }
 {
-    x.cmp(y).is_lt()
+    match end {
+        End::Lesser => line.lesser.at(row),
+        End::Greater => line.greater.at(row),
+    }
 }
 
-/// Whether the greater end of the first is left of the lesser end of the second.
-pub fn ends_before(first: &Seg, second: &Seg) -> bool
-    ensures { IsTrue result ↔ Less first.now.q.x second.now.p.x }
+/// An end of a segment.
+pub fn end_at(seg: &Seg, end: End) -> Point
+    ensures { result ≡ end_of seg.now end }
 {
-    is_less(&first.q().x, &second.p().x)
-}
-
-/// Whether both ends of the first are lower than both of the second.
-fn is_below(first: &Seg, second: &Seg) -> bool
-    ensures below { IsTrue result ↔ LiesBelow first.now second.now }
-    ensures segments { IsSegment first.now × IsSegment second.now }
-{
-    let (a, b) = (first.p().y, first.q().y);
-    let (c, d) = (second.p().y, second.q().y);
-    is_less(&a, &c) && is_less(&a, &d) && is_less(&b, &c) && is_less(&b, &d)
-}
-
-/// Whether one of two segments is left of the other.
-fn are_beside(s: &Seg, t: &Seg) -> bool
-    ensures { IsTrue result ↔ AreBeside s.now t.now }
-{
-    ends_before(s, t) || ends_before(t, s)
-}
-
-/// Whether one of two segments is lower than the other.
-fn are_at_heights(s: &Seg, t: &Seg) -> bool
-    ensures at_heights { IsTrue result ↔ AreAtHeights s.now t.now }
-    ensures segments { IsSegment s.now × IsSegment t.now }
-{
-    is_below(s, t) || is_below(t, s)
-}
-
-/// Whether the extents of two segments do not meet, so that they have no common point.
-pub fn are_apart(s: &Seg, t: &Seg) -> bool
-    ensures { IsTrue result → (r : ExactPoint) → ¬ OnBoth r s.now t.now }
-{
-    are_beside(s, t) || are_at_heights(s, t)
-}
-
-/// What two lines have in common.
-pub fn common(s: &Seg, t: &Seg) -> Meet
-    ensures meets { Meets s.now t.now result }
-    ensures canonical { HasCanonicalPoints result }
-{
-    uncounted::<Brand>(s, t, Blank::new(1))
-}
-
-/// What two segments have in common, found with a counter of its own.
-fn uncounted<L: Ledger>(s: &Seg, t: &Seg, blank: Blank) -> Meet
-    requires name { blank.name ≡ L.name }
-    requires parts { blank.parts ≡ L.parts }
-    requires some { 0 < blank.parts }
-    ensures meets { Meets s.now t.now result }
-    ensures canonical { HasCanonicalPoints result }
-{
-    meet(s, t, &mut Steps::<L>::begin(blank))
+    match end {
+        End::Lesser => seg.p(),
+        End::Greater => seg.q(),
+    }
 }

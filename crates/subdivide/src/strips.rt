@@ -1,170 +1,155 @@
-//! The lines by direction and from right to left, so that those that a segment can meet stand together.
+//! Strips of the eight forms, in which the lines stand that those to come can meet.
 
-ghost use Rattle.std.specs.Prelude.{◌≡◌, ℕ, ◌<◌, ◌≤◌, ◌⊎◌, length, slice_index_or, Contains, IfOk, OnOk};
-ghost use Rattle.std.specs.declared.cmp.Ordering.{Ordering as AnyOrdering};
-ghost use Rattle.std.specs.Ordering.{is_lt};
-ghost use Rattle.exact.specs.Plane.{ExactPoint, OnBoth};
-ghost use Rattle.subdivide.specs.Crossings.{Covers};
-ghost use Rattle.subdivide.specs.Strips.{line_order, line_held, through, order_across, AreHeld, AreOrdered};
-ghost use Rattle.subdivide.specs.Strips.{AreStrips, AreRightAndLeft, ReachesAll};
-ghost use Rattle.subdivide.specs.declared.strips.Held.{Held as AnyHeld};
+ghost use Rattle.std.specs.Prelude.{◌≡◌, ◌+◌, ◌<◌, ◌^◌, ℕ, OnOk, false, length, slice_get, Some, ◌<ℤ◌};
+ghost use Rattle.subdivide.specs.Lines.{AreSwept, mark_at, leftward};
+ghost use Rattle.subdivide.specs.Strips.{place_of, IsBand, AreBands, IsOwnPlace, AreStanding, AreLookedAt, AreBelow, HaveBelow, AreNear};
+ghost use Rattle.subdivide.specs.Strips.{IsReached};
+ghost use Rattle.subdivide.specs.declared.line.End.TheVariants as ends;
+ghost use Rattle.subdivide.specs.declared.line.MarkedLine.{MarkedLine as ALine};
 
-use crate::line::{Line, are_apart};
-use chains::ascending;
-use plane::{Point, Seg, side};
-use qroot2::{Dir, Sign};
+use crate::line::{End, MarkedLine, mark};
+use forms::row_of;
 use std::alloc::{AllocError, Global};
-use std::cmp::Ordering;
 
-/// A line by its place, with its direction and its lesser end.
+/// The strips of one row: where they begin, how wide they are, which place is the first, and how many
+/// follow it.
 #[derive(Clone, Copy)]
-pub struct Held {
-    dir: Dir,
-    at: Point,
-    place: usize,
+pub struct Band {
+    pub low: i32,
+    pub shift: u32,
+    pub first: usize,
+    pub last: usize,
 }
 
-impl Held {
-    /// How it stands to the line through a point: by direction, and then from right to left.
-    fn compare(&self, dir: Dir, at: &Point) -> Ordering
-        ensures { result ≡ line_order (line_held self.now) (through dir at.now) }
+/// The lines in one strip, by their numbers.
+#[derive(Drop)]
+pub struct Strip {
+    pub lines: Vec<u32>,
+}
+
+/// The strips of all eight forms. Each line stands in one strip, that of the form that is one value on it.
+#[derive(Drop)]
+pub struct Strips {
+    pub bands: Vec<Band>,
+    pub strips: Vec<Strip>,
+}
+
+/// The row of direction 4, whose form is x from right to left.
+const LEFTWARD: usize = 4;
+
+impl Band {
+    /// The place of the strip into which a mark falls.
+    fn place(&self, mark: i32) -> usize
+        requires { (count : ℕ) × (count < 2 ^ 64) × IsBand count self.now }
+        ensures { result ≡ place_of self.now mark }
     {
-        match self.dir.number().cmp(&dir.number()) {
-            Ordering::Equal => across(side(&self.at, dir, at)),
-            other => other,
+        let above = u64::from(mark.max(self.low).abs_diff(self.low));
+        self.first + self.last.min((above >> self.shift) as usize)
+    }
+}
+
+/// Whether a line reaches one that begins at this mark: it does not end left of it.
+fn reaches(lines: &[MarkedLine], number: u32, start: i32) -> bool
+    ensures { result ≡ false → (l : ALine) → slice_get lines.now number ≡ Some l
+        → start <ℤ mark_at l ends.Greater leftward }
+{
+    match lines.get(number as usize) {
+        Some(line) => mark(line, End::Greater, LEFTWARD) <= start,
+        None => false,
+    }
+}
+
+impl Strips {
+    /// The strip in which a line stands.
+    fn own_place(&self, line: &MarkedLine) -> usize
+        requires { AreBands self.now }
+        ensures own { IsOwnPlace self.now line.now result }
+        ensures within { result < length self.now.strips.items }
+    {
+        let row = row_of(line.dir);
+        self.bands[row].place(mark(line, End::Lesser, row))
+    }
+
+    /// Puts the next line into its strip.
+    pub fn put(&mut self, lines: &[MarkedLine], line: usize, number: u32) -> Result<(), AllocError>
+        requires number { number ≡ line }
+        requires within { line < length lines.now }
+        requires standing { AreStanding lines.now line self.old }
+        ensures { OnOk result (AreStanding lines.now (line + 1) self.new) }
+    {
+        let place = self.own_place(&lines[line]);
+        self.strips[place].lines.push(number)?;
+        Ok(())
+    }
+
+    /// Puts the lines into a list that can have a point of the next one, but for those of its direction.
+    /// What ends left of it leaves the strips.
+    pub fn reach(
+        &mut self,
+        lines: &[MarkedLine],
+        line: usize,
+        near: &mut Vec<u32>,
+    ) -> Result<(), AllocError>
+        requires swept { AreSwept lines.now }
+        requires within { line < length lines.now }
+        requires standing { AreStanding lines.now line self.old }
+        ensures standing { OnOk result (AreStanding lines.now line self.new) }
+        ensures near { OnOk result (AreNear lines.now line near.new.items) }
+    {
+        near.clear();
+        let own = row_of(lines[line].dir);
+        for row in 0..8 {
+            if row != own {
+                self.reach_band(lines, line, row, near)?;
+            }
         }
+        Ok(())
     }
-}
 
-/// How a line stands to a parallel one that is on this side of it.
-fn across(sign: Sign) -> Ordering
-    ensures { result ≡ order_across sign }
-{
-    match sign {
-        Sign::Plus => Ordering::Less,
-        Sign::Zero => Ordering::Equal,
-        Sign::Minus => Ordering::Greater,
-    }
-}
-
-/// All lines, by direction and then from right to left.
-pub fn strips_of(alloc: Global, lines: &[Line]) -> Result<Vec<Held>, AllocError>
-    ensures { IfOk result (λ held. AreStrips lines.now held.items) }
-{
-    let mut held = all_held(alloc, lines)?;
-    held.sort_by(|first, second| first.compare(second.dir, &second.at))?;
-    Ok(held)
-}
-
-/// All lines, in their order.
-fn all_held(alloc: Global, lines: &[Line]) -> Result<Vec<Held>, AllocError>
-    ensures { IfOk result (λ held. AreHeld lines.now held.items) }
-{
-    let mut held = Vec::new(alloc);
-    for (place, line) in lines.iter().enumerate() {
-        let seg = line.seg();
-        held.push(Held {
-            dir: seg.dir(),
-            at: seg.p(),
-            place,
-        })?;
-    }
-    Ok(held)
-}
-
-/// The end of a segment that is further to the right, as a direction looks, and the other one.
-fn right_and_left(seg: &Seg, dir: Dir) -> (Point, Point)
-    ensures { AreRightAndLeft seg.now dir result.0 result.1 }
-{
-    let (p, q) = (seg.p(), seg.q());
-    match side(&p, dir, &q) {
-        Sign::Minus => (q, p),
-        _ => (p, q),
-    }
-}
-
-/// The place of the first line that does not stand before the line through a point.
-fn first_from(held: &[Held], dir: Dir, at: &Point) -> usize
-    requires { AreOrdered held.now }
-    ensures within { result ≤ length held.now }
-    ensures before { (i : ℕ) (d : AnyHeld) → i < result
-        → line_order (line_held (slice_index_or held.now i d)) (through dir at.now) ≡ AnyOrdering.Less }
-{
-    held.partition_point(|line| line.compare(dir, at).is_lt())
-}
-
-/// The place of the first line that stands after the line through a point.
-fn first_past(held: &[Held], dir: Dir, at: &Point) -> usize
-    requires { AreOrdered held.now }
-    ensures within { result ≤ length held.now }
-    ensures after { (i : ℕ) (d : AnyHeld) → result ≤ i → i < length held.now
-        → line_order (line_held (slice_index_or held.now i d)) (through dir at.now) ≡ AnyOrdering.Greater }
-{
-    held.partition_point(|line| line.compare(dir, at).is_le())
-}
-
-/// Adds the place of a line, unless its extents do not meet those of a segment.
-fn add_place(seg: &Seg, line: &Seg, place: usize, places: &mut Vec<usize>) -> Result<(), AllocError>
-    ensures keeps { (n : ℕ) → Contains places.old.items n → Contains places.new.items n }
-    ensures adds { (n : ℕ) → Contains places.new.items n → Contains places.old.items n ⊎ (n ≡ place) }
-    ensures ok { OnOk result
-        (Contains places.new.items place ⊎ ((r : ExactPoint) → ¬ OnBoth r seg.now line.now)) }
-{
-    if !are_apart(seg, line) {
-        places.push(place)?;
-    }
-    Ok(())
-}
-
-/// Adds the places of the lines of one direction that a segment can meet: those that run between its ends.
-fn add_reached(
-    held: &[Held],
-    lines: &[Line],
-    seg: &Seg,
-    dir: Dir,
-    places: &mut Vec<usize>,
-) -> Result<(), AllocError>
-    requires { AreStrips lines.now held.now }
-    ensures keeps { (n : ℕ) → Contains places.old.items n → Contains places.new.items n }
-    ensures within { (n : ℕ) → Contains places.new.items n → Contains places.old.items n
-        ⊎ (n < length lines.now) }
-    ensures ok { OnOk result (ReachesAll seg.now lines.now dir places.new.items) }
-{
-    let (right, left) = right_and_left(seg, dir);
-    let from = first_from(held, dir, &right);
-    let to = first_past(held, dir, &left);
-    for i in from..to {
-        let place = held[i].place;
-        add_place(seg, lines[place].seg(), place, places)?;
-    }
-    Ok(())
-}
-
-/// The direction of a number of units.
-fn numbered(k: u8) -> Dir
-    requires { k < 16 }
-    ensures { result ≡ k }
-{
-    Dir::new(k).unwrap()
-}
-
-/// Puts the places of the lines that a segment can meet into a list, ascending.
-pub fn reached(
-    held: &[Held],
-    lines: &[Line],
-    seg: &Seg,
-    places: &mut Vec<usize>,
-) -> Result<(), AllocError>
-    requires { AreStrips lines.now held.now }
-    ensures { OnOk result (Covers seg.now lines.now places.new.items) }
-{
-    places.clear();
-    for k in 0..16 {
-        // no line leads from its lesser end to an earlier point
-        if k < 5 || k > 12 {
-            add_reached(held, lines, seg, numbered(k), places)?;
+    /// Adds the lines of the strips of one row between the ends of the next line.
+    fn reach_band(
+        &mut self,
+        lines: &[MarkedLine],
+        line: usize,
+        row: usize,
+        near: &mut Vec<u32>,
+    ) -> Result<(), AllocError>
+        requires row { row < 8 }
+        requires swept { AreSwept lines.now }
+        requires within { line < length lines.now }
+        requires standing { AreStanding lines.now line self.old }
+        requires below { AreBelow line near.old.items }
+        ensures { OnOk result (AreLookedAt lines.now line (IsReached self.old lines.now line row) self.old self.new
+            near.old.items near.new.items) }
+    {
+        let band = self.bands[row];
+        let from = band.place(mark(&lines[line], End::Lesser, row));
+        let to = band.place(mark(&lines[line], End::Greater, row));
+        for place in from.min(to)..from.max(to) + 1 {
+            self.look(lines, line, place, near)?;
         }
+        Ok(())
     }
-    ascending(places);
-    Ok(())
+
+    /// Adds the lines of one strip, when those that end left of the next line have left it.
+    fn look(
+        &mut self,
+        lines: &[MarkedLine],
+        line: usize,
+        place: usize,
+        near: &mut Vec<u32>,
+    ) -> Result<(), AllocError>
+        requires swept { AreSwept lines.now }
+        requires within { line < length lines.now }
+        requires place { place < length self.old.strips.items }
+        requires earlier { HaveBelow line self.old }
+        requires below { AreBelow line near.old.items }
+        ensures { OnOk result (AreLookedAt lines.now line (λ p. p ≡ place) self.old self.new near.old.items
+            near.new.items) }
+    {
+        let start = mark(&lines[line], End::Lesser, LEFTWARD);
+        let strip = &mut self.strips[place];
+        strip.lines.retain(|number| reaches(lines, *number, start));
+        near.extend_from_slice(&strip.lines)
+    }
 }

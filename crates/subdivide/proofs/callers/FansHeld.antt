@@ -1,9 +1,9 @@
 -- The fans of all vertices, as the walk over the edges leaves them, have the rays that go out.
-use Rattle.std.proofs.Common.{◌≡◌, ◌≢◌, ℕ, ◌+◌, ◌<◌, ◌≤◌, List, length, get_or, refl, sym, ap, subst, ◌∙◌, ◌⊎◌, inl, inr, arith}
-use Rattle.std.specs.Prelude.{◌↔◌, Some, slice_get, Contains, All}
+use Rattle.std.proofs.Common.{◌≡◌, ◌≢◌, ℕ, ◌+◌, ◌<◌, List, length, get_or, refl, sym, ap, subst, ◌∙◌, inl, inr, arith}
+use Rattle.std.specs.Prelude.{Some, slice_get, Contains}
 use Rattle.std.proofs.lemmas.Bool.{cases_lt}
 use Rattle.std.proofs.lemmas.List.Elements.{All-contains}
-use Rattle.std.proofs.lemmas.Option.{slice_get_read, slice_get_cases, slice_get_within, get_or_from_slice_get}
+use Rattle.std.proofs.lemmas.Option.{slice_get_read, slice_get_cases, slice_get_within}
 use Rattle.exact.specs.Plane.{ExactPoint, SamePoint, DirOf, IsSegment}
 use Rattle.sheet.specs.Pattern.{ExactPattern}
 use Rattle.sheet.specs.declared.mark.Mark.{Mark}
@@ -11,7 +11,7 @@ use Rattle.layers.specs.declared.star.Ray.{Ray}
 use Rattle.geometry.specs.Meeting.{Along}
 use Rattle.geometry.proofs.Leads.{dir_moved}
 use Rattle.geometry.proofs.PointOrder.{same_itself}
-use Rattle.subdivide.specs.Subdivision.{IsVertex, IsEdge, EdgePlaces, ExactSubdivision, AreVertices, AreEdges}
+use Rattle.subdivide.specs.Subdivision.{IsVertex, IsEdge, EdgePlaces, ExactSubdivision}
 use Rattle.subdivide.specs.Chain.{AreLines}
 use Rattle.subdivide.specs.Star.{marked_kind, GoesOut}
 use Rattle.subdivide.specs.Live.{IsCutAs}
@@ -20,9 +20,7 @@ use Rattle.subdivide.specs.declared.stars.Fan.{Fan}
 use Rattle.subdivide.proofs.PatternLines.{pattern_lines}
 use Rattle.subdivide.proofs.Known.{places_rise}
 use Rattle.subdivide.proofs.Rays.{joining, edge_along, edge_moved, one_mark}
-
-pub some_is : {X : Type 0} {p q : X} → Some p ≡ Some q → p ≡ q
-some_is e = cc
+use Rattle.subdivide.proofs.callers.Gets.{some_is, has_at}
 
 abbrev EdgeIn : ExactPattern → List ExactPoint → EdgePlaces → Type 0
 EdgeIn pattern vs e = (u v : ExactPoint) × (slice_get vs e.from ≡ Some u) × (slice_get vs e.to ≡ Some v) × IsEdge pattern u v e.kind
@@ -30,14 +28,11 @@ EdgeIn pattern vs e = (u v : ExactPoint) × (slice_get vs e.from ≡ Some u) × 
 lines_of : (pattern : ExactPattern) (cut : ExactSubdivision) → IsCutAs pattern cut → AreLines pattern
 lines_of pattern cut c = pattern_lines pattern c.is
 
-stands_in : {X : Type 0} (xs : List X) (n : ℕ) (x : X) → slice_get xs n ≡ Some x → Contains xs x
-stands_in xs n x e = (n, slice_get_within xs n x e, get_or_from_slice_get xs n x x e)
-
 stands_at : {X : Type 0} (xs : List X) (x : X) → Contains xs x → (n : ℕ) × (slice_get xs n ≡ Some x)
 stands_at xs x c = (c.0, slice_get_read xs (length xs) c.0 x refl c.1 (sym c.2))
 
 edge_in : (pattern : ExactPattern) (cut : ExactSubdivision) → IsCutAs pattern cut → (n : ℕ) (e : EdgePlaces) → slice_get cut.edges n ≡ Some e → EdgeIn pattern cut.vertices e
-edge_in pattern cut c n e s = All-contains (EdgeIn pattern cut.vertices) cut.edges e c.cut.3.each (stands_in cut.edges n e s)
+edge_in pattern cut c n e s = All-contains (EdgeIn pattern cut.vertices) cut.edges e c.cut.3.each (has_at cut.edges n e s)
 
 -- the edges of a subdivision are segments
 pub joined : (pattern : ExactPattern) (cut : ExactSubdivision) → IsCutAs pattern cut → (n : ℕ) (e : EdgePlaces) → slice_get cut.edges n ≡ Some e → IsJoined cut.vertices e

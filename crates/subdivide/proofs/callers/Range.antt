@@ -7,7 +7,6 @@ use Rattle.exact.specs.Plane.{ExactSegment, SegmentBefore}
 use Rattle.sheet.specs.Pattern.{ExactCrease, ExactPattern, IsPattern}
 use Rattle.subdivide.specs.Subdivision.{OutOfRange, InRange, Answer, CutOf}
 use Rattle.sheet.specs.declared.colour.Colour.TheVariants.{M}
-use Rattle.geometry.proofs.PointOrder.{before_not_back, before_not_same, same_back}
 use Rattle.creases.proofs.callers.Members.{segment_not_back}
 
 segment_not_itself : (s : ExactSegment) → SegmentBefore s s → ⊥

@@ -1,4 +1,4 @@
-use Rattle.std.proofs.Common.{◌≡◌, ℕ, ◌+◌, ◌<◌, List, length, ap, subst, sym, refl, ◌∙◌, arith}
+use Rattle.std.proofs.Common.{◌≡◌, ◌+◌, List, length, ap, subst, sym, refl, ◌∙◌, arith}
 use Rattle.std.specs.Prelude.{Some, slice_get, All, AllPairs}
 use Rattle.std.proofs.lemmas.Option.{slice_get_read}
 use Rattle.exact.specs.Plane.{ExactPoint, Before, IsPointCanonical}

@@ -1,4 +1,4 @@
-use Rattle.std.proofs.Common.{◌≡◌, ap, subst, sym, refl, ◌∙◌, false}
+use Rattle.std.proofs.Common.{◌≡◌, ap, subst, sym, refl, ◌∙◌}
 use Rattle.sheet.specs.Sheet.{ExactSheet, IsInside}
 use Rattle.sheet.specs.Pattern.{ExactPattern}
 use Rattle.judge.proofs.fault.report_on.Goals as goal

@@ -1,20 +1,13 @@
-use Rattle.std.proofs.Common.{arith, refl, sym, subst, ◌≤◌, ◌≡◌, length, get_or, Equal}
-use Rattle.std.specs.Prelude.{ℕ, All, Contains}
-use Rattle.std.proofs.lemmas.List.Elements.{All-contains}
-use Rattle.subdivide.specs.Steps.{HoldsSteps}
+use Rattle.std.proofs.Common.{arith, refl, sym, subst, get_or, Equal, ◌≡◌, ◌-◌}
+use Rattle.std.proofs.lemmas.Option.{slice_get-get_or}
 use Rattle.subdivide.specs.declared.edge.EdgeKind.{EdgeKind}
 use Rattle.subdivide.specs.declared.edge.EdgeKind.TheVariants as kind
 use Rattle.subdivide.specs.contracts.edge.EdgeKindOrd.TheImpl
-use Rattle.subdivide.specs.declared.gather.Chain.{Chain}
-use Rattle.subdivide.proofs.ChainEdges.{edges_more, edges_same, kinded_before}
+use Rattle.subdivide.proofs.Stepped.{AreStepsTo, none_stepped, next_stepped, all_stepped, kinded_before}
 use Rattle.subdivide.proofs.edges.edges_of.Goals as goal
 
-pub add_steps-requires-clause-contains : goal.add_steps-requires-clause-contains
-add_steps-requires-clause-contains c =
-    subst (All (Contains c.args.vertices.now)) (sym c.deref.ensures.value) (All-contains (λ (x : Chain). All (Contains c.args.vertices.now) x.points.items) c.args.chains.now c.chain-item.result c.requires.contains (c.loop-chain.chain-index, omega arith, sym c.chain-item.is))
-
-pub loop-chain-preserved : goal.loop-chain-preserved
-loop-chain-preserved c = edges_more c.args.vertices.now c.args.chains.now c.loop-chain.chain-index c.chain-item.result c.deref.result.now c.loop-chain.edges.items c.add_steps.new.edges.items (omega arith) c.chain-item.is c.deref.ensures.value c.loop-chain.invariant c.in_ok-add_steps.ensures.all
+pub loop-i-init : goal.loop-i-init
+loop-i-init c = subst (AreStepsTo c.args.lines.now c.args.cuts.now 1) (sym c.in_ok-edges.ensures.items) (none_stepped c.args.lines.now c.args.cuts.now)
 
 same_kind : (k : EdgeKind) → (Rattle.subdivide.specs.contracts.edge.EdgeKindOrd.TheImpl.ghosts).cmp k k ≡ Equal
 same_kind kind.B = refl
@@ -22,12 +15,12 @@ same_kind kind.M = refl
 same_kind kind.V = refl
 same_kind kind.A = refl
 
-pub returns-clause-ordered : goal.returns-clause-ordered
-returns-clause-ordered c = λ i j d p q. kinded_before (Rattle.subdivide.specs.contracts.edge.EdgeKindOrd.TheImpl.ghosts).cmp same_kind (get_or c.ascending.new.list.items i d) (get_or c.ascending.new.list.items j d) (c.ascending.ensures.ascends i j d p q)
+pub returns : goal.returns
+returns c = all_stepped c.args.lines.now c.args.cuts.now c.loop-i.i c.loop-i.edges.items c.ascending.new.list.items (omega arith) c.loop-i.invariant
+    (λ i j d p q. kinded_before (Rattle.subdivide.specs.contracts.edge.EdgeKindOrd.TheImpl.ghosts).cmp same_kind (get_or c.ascending.new.list.items i d) (get_or c.ascending.new.list.items j d) (c.ascending.ensures.ascends i j d p q))
+    c.ascending.ensures.keeps c.ascending.ensures.adds_none
 
-ended : (n m : ℕ) → n ≤ m → m ≤ n → n ≡ m
-ended n m p q = omega arith
-
-pub returns-clause-holds : goal.returns-clause-holds
-returns-clause-holds c = edges_same c.args.vertices.now c.args.chains.now (length c.args.chains.now) c.loop-chain.edges.items c.ascending.new.list.items c.ascending.ensures.keeps c.ascending.ensures.adds_none
-    (subst (λ n. HoldsSteps c.args.vertices.now c.args.chains.now n c.loop-chain.edges.items) (ended c.loop-chain.chain-index (length c.args.chains.now) (omega arith) (omega arith)) c.loop-chain.invariant)
+pub loop-i-preserved : goal.loop-i-preserved
+loop-i-preserved c = next_stepped c.args.lines.now c.args.cuts.now c.loop-i.i _ _ c.loop-i.edges.items c.add_step.new.edges.items (omega arith)
+    (slice_get-get_or c.args.cuts.now (c.loop-i.i - 1) _ (omega arith)) (slice_get-get_or c.args.cuts.now c.loop-i.i _ (omega arith))
+    c.in_ok-add_step.ensures c.loop-i.invariant

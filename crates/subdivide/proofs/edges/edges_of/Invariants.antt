@@ -1,5 +1,5 @@
-use Rattle.subdivide.specs.Steps.{HoldsSteps}
+use Rattle.subdivide.proofs.Stepped.{AreStepsTo}
 use Rattle.subdivide.proofs.edges.edges_of.Given as goal
 
-abbrev pub invariant-loop-chain : goal.invariant-loop-chain
-invariant-loop-chain l = HoldsSteps l.vertices l.chains l.chain-index l.edges.items
+abbrev pub invariant-loop-i : goal.invariant-loop-i
+invariant-loop-i l = AreStepsTo l.lines l.cuts l.i l.edges.items

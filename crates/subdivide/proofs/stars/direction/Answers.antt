@@ -1,4 +1,4 @@
-use Rattle.std.proofs.Common.{◌≡◌, ◌≢◌, ℕ, ◌<◌, ◌↔◌, ◌⊎◌, Result, Err, Ok, sym, subst, inl, inr, refl}
+use Rattle.std.proofs.Common.{◌≡◌, ◌≢◌, ◌↔◌, Result, Err, sym, subst, inl, inr, refl}
 use Rattle.exact.specs.Plane.{ExactPoint, ExactSegment, IsSegment, Before, DirOf}
 use Rattle.plane.specs.Segments.{HasEnds}
 use Rattle.plane.specs.declared.segment.SegBad.{SegBad}

@@ -1,9 +1,8 @@
 use Rattle.std.proofs.Common.{◌≡◌, ◌<◌, ◌≤◌, ℕ, length, get_or, refl, sym, ap, subst, ◌∙◌, arith, Some}
 use Rattle.std.specs.Prelude.{slice_get, List}
 use Rattle.std.proofs.lemmas.Option.{slice_get-get_or}
-use Rattle.exact.specs.Plane.{ExactPoint}
 use Rattle.subdivide.specs.Subdivision.{EdgePlaces}
-use Rattle.subdivide.specs.Fans.{IsJoined, IsNoted, HoldRays}
+use Rattle.subdivide.specs.Fans.{IsJoined, IsNoted}
 use Rattle.subdivide.specs.declared.edge.EdgeKind.TheVariants as kind
 use Rattle.subdivide.proofs.callers.FansHeld.{joined, held_more, held_still, all_held}
 use Rattle.subdivide.proofs.stars.fans_of.Goals as goal

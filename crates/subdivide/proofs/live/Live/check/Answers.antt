@@ -1,4 +1,4 @@
-use Rattle.std.proofs.Common.{◌≡◌, rules, subst}
+use Rattle.std.proofs.Common.{rules, subst}
 use Rattle.sheet.specs.Pattern.{ExactPattern}
 use Rattle.pattern.specs.Deltas.{Leads}
 use Rattle.ports.specs.Stops.{Refuses}
