@@ -3,8 +3,8 @@ use Rattle.std.proofs.Common.{◌≡◌, ℕ, zero, suc, ◌*◌, ◌<◌, max, 
 use Rattle.std.specs.Prelude.{ℤ, pos, ◌+ℤ◌, ◌-ℤ◌, ◌*ℤ◌}
 use Rattle.exact.specs.Number.{ExactNumber, den, Less, Positive, add, mul}
 use Rattle.exact.proofs.Ring.{is_add, is_sub, is_lit, is_atom, is_mul, is_eq}
-use Rattle.exact.proofs.Positive.{scaled}
-use Rattle.exact.proofs.Products.{moved, positive_product, whole_part, root_part}
+use Rattle.exact.proofs.Positive.{moved, scaled}
+use Rattle.exact.proofs.Products.{positive_product, whole_part, root_part}
 
 -- a product of denominators is a denominator
 pub tall : (m n : ℕ) → 0 < m → 0 < n → max 1 (m * n) ≡ m * n

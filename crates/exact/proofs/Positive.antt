@@ -48,16 +48,13 @@ as_pos a p r t h e = same_in a (pos t) (omega (arith, h.is))
 as_neg : (a : ℤ) (p r t : ℕ) → Is a p r → r ≡ p + t → a ≡ neg_ℤ (pos t)
 as_neg a p r t h e = is_eq h (is_neg (is_lit t)) (omega arith)
 
+pub moved : (a a' b b' : ℤ) → a ≡ a' → b ≡ b' → Positive a' b' → Positive a b
+moved a a' b b' e f v = rw (e, f) v
+
 pub wins_positive : (a b : ℤ) (p q r s : ℕ) → Is a p r → Is b q s → Wins p q r s → Positive a b
 wins_positive a b p q r s h k (Wins.both x y z) = inl (omega (arith, ints, h.is, k.is), omega (arith, ints, h.is, k.is), omega (arith, ints, h.is, k.is))
-wins_positive a b p q r s h k (Wins.high t u x y z w) = subst2 a (pos t) b (neg_ℤ (pos u)) (as_pos a p r t h x) (as_neg b q s u k y) (from_high t u z w)
-  where
-    subst2 : (a a' b b' : ℤ) → a ≡ a' → b ≡ b' → Positive a' b' → Positive a b
-    subst2 a a' b b' e f v = rw (e, f) v
-wins_positive a b p q r s h k (Wins.low t u x y z w) = subst2 a (neg_ℤ (pos t)) b (pos u) (as_neg a p r t h x) (as_pos b q s u k y) (from_low t u z w)
-  where
-    subst2 : (a a' b b' : ℤ) → a ≡ a' → b ≡ b' → Positive a' b' → Positive a b
-    subst2 a a' b b' e f v = rw (e, f) v
+wins_positive a b p q r s h k (Wins.high t u x y z w) = moved a (pos t) b (neg_ℤ (pos u)) (as_pos a p r t h x) (as_neg b q s u k y) (from_high t u z w)
+wins_positive a b p q r s h k (Wins.low t u x y z w) = moved a (neg_ℤ (pos t)) b (pos u) (as_neg a p r t h x) (as_pos b q s u k y) (from_low t u z w)
 
 is_at : (a : ℤ) (p : ℕ) → a ≡ pos p → Is a p 0
 is_at a p e = subst (λ z. Is z p 0) (sym e) (is_lit p)

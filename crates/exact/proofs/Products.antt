@@ -5,10 +5,7 @@ use Rattle.std.proofs.lemmas.Int.{ints}
 use Rattle.exact.specs.Number.{Positive}
 use Rattle.exact.proofs.Ring.{is_add, is_neg, is_lit, is_atom, is_mul, is_eq}
 use Rattle.exact.proofs.Root.{side}
-use Rattle.exact.proofs.Positive.{positive_sum, scaled, exclusive, zero_not, from_high, from_low}
-
-pub moved : (a a' b b' : ℤ) → a ≡ a' → b ≡ b' → Positive a' b' → Positive a b
-moved a a' b b' e f v = rw (e, f) v
+use Rattle.exact.proofs.Positive.{moved, positive_sum, scaled, exclusive, zero_not, from_high, from_low}
 
 -- √2 times a number above zero
 pub root_times : (a b : ℤ) → Positive a b → Positive (pos 2 *ℤ b) a

@@ -5,13 +5,10 @@ use Rattle.std.proofs.lemmas.Int.{ints, clamps}
 use Rattle.exact.specs.Number.{ExactNumber, Positive, Less, Same, den, mul, whole}
 use Rattle.exact.specs.Floor.{IsFloor, integer}
 use Rattle.exact.proofs.Order.{none_gap, less_moved, above_moved}
-use Rattle.exact.proofs.Positive.{less_trans, unscaled, zero_not}
+use Rattle.exact.proofs.Positive.{moved, less_trans, unscaled, zero_not}
 use Rattle.exact.proofs.Told.{same_on}
 use Rattle.exact.proofs.Ring.{is_eq, is_add, is_sub, is_mul, is_atom, is_lit}
 use Rattle.forms.specs.Marks.{nearest}
-
-moved : (a a' b b' : ℤ) → a ≡ a' → b ≡ b' → Positive a b → Positive a' b'
-moved a a' b b' e f h = rw (← e, ← f) h
 
 one_gap : (i j : ℤ) → j *ℤ pos 1 -ℤ i *ℤ pos 1 ≡ j -ℤ i
 one_gap i j = is_eq (is_sub (is_mul (is_atom j) (is_lit 1)) (is_mul (is_atom i) (is_lit 1))) (is_sub (is_atom j) (is_atom i)) (omega arith)
@@ -59,7 +56,7 @@ none : (a : ℤ) → a *ℤ pos 0 ≡ pos 0
 none a = is_eq (is_mul (is_atom a) (is_lit 0)) (is_lit 0) (omega arith)
 
 unscaled_any : (a b : ℤ) (k : ℕ) → Positive (a *ℤ pos k) (b *ℤ pos k) → Positive a b
-unscaled_any a b zero h = absurd (zero_not (moved _ _ _ _ (none a) (none b) h))
+unscaled_any a b zero h = absurd (zero_not (moved _ _ _ _ (sym (none a)) (sym (none b)) h))
 unscaled_any a b (suc k) h = unscaled a b (suc k) (omega arith) h
 
 den_scaled : (n : ℕ) (x : ExactNumber) → den (mul (whole n) x) ≡ den x
@@ -72,4 +69,4 @@ less_scaled n x y h =
     let g : Positive (Y.a *ℤ pos (den x) -ℤ X.a *ℤ pos (den Y)) (Y.b *ℤ pos (den x) -ℤ X.b *ℤ pos (den Y)) = subst (λ (t : ℕ). Positive (Y.a *ℤ pos t -ℤ X.a *ℤ pos (den Y)) (Y.b *ℤ pos t -ℤ X.b *ℤ pos (den Y))) (den_scaled n x) h in
     let f : Positive (Y.a *ℤ pos (den x) -ℤ X.a *ℤ pos (den y)) (Y.b *ℤ pos (den x) -ℤ X.b *ℤ pos (den y)) = subst (λ (t : ℕ). Positive (Y.a *ℤ pos (den x) -ℤ X.a *ℤ pos t) (Y.b *ℤ pos (den x) -ℤ X.b *ℤ pos t)) (den_scaled n y) g in
     unscaled_any (y.a *ℤ pos (den x) -ℤ x.a *ℤ pos (den y)) (y.b *ℤ pos (den x) -ℤ x.b *ℤ pos (den y)) n
-    (moved _ _ _ _ (scaled_a n x.a x.b y.a y.b (den x) (den y)) (scaled_b n x.a x.b y.a y.b (den x) (den y)) f)
+    (moved _ _ _ _ (sym (scaled_a n x.a x.b y.a y.b (den x) (den y))) (sym (scaled_b n x.a x.b y.a y.b (den x) (den y))) f)

@@ -5,7 +5,7 @@ use Rattle.std.proofs.lemmas.Int.{ints}
 use Rattle.exact.specs.Number.{Positive}
 use Rattle.exact.proofs.Ring.{is_add, is_lit, is_atom, is_mul, is_eq}
 use Rattle.exact.proofs.Root.{side}
-use Rattle.exact.proofs.Positive.{positive_sum, scaled, exclusive}
+use Rattle.exact.proofs.Positive.{moved, positive_sum, scaled, exclusive}
 use Rattle.geometry.specs.Root.{Root, plus, times, minus, count, Above}
 use Rattle.geometry.proofs.RootRing.{both, plus_comm, plus_zero, times_comm, times_assoc}
 use Rattle.geometry.proofs.Solve.{at, none, add, mul, opp, solve, times_zero}
@@ -38,9 +38,6 @@ count_times n y p h =
     let e : pos n *ℤ y.a +ℤ pos 2 *ℤ (pos 0 *ℤ y.b) ≡ y.a *ℤ pos n = is_eq (is_add (is_mul N A) (is_mul two (is_mul zero B))) (is_mul A N) (omega arith) in
     let f : pos n *ℤ y.b +ℤ pos 0 *ℤ y.a ≡ y.b *ℤ pos n = is_eq (is_add (is_mul N B) (is_mul zero A)) (is_mul B N) (omega arith) in
     moved _ _ _ _ e f (scaled y.a y.b n p h)
-  where
-    moved : (a a' b b' : ℤ) → a ≡ a' → b ≡ b' → Positive a' b' → Positive a b
-    moved a a' b b' e f v = rw (e, f) v
 
 root : Root
 unfolding count
@@ -53,9 +50,6 @@ root_times y h =
     let e : pos 0 *ℤ y.a +ℤ pos 2 *ℤ (pos 1 *ℤ y.b) ≡ pos 2 *ℤ y.b = is_eq (is_add (is_mul zero A) (is_mul two (is_mul one B))) (is_mul two B) (omega arith) in
     let f : pos 0 *ℤ y.b +ℤ pos 1 *ℤ y.a ≡ y.a = is_eq (is_add (is_mul zero B) (is_mul one A)) A (omega arith) in
     moved _ _ _ _ e f (turned y.a y.b h)
-  where
-    moved : (a a' b b' : ℤ) → a ≡ a' → b ≡ b' → Positive a' b' → Positive a b
-    moved a a' b b' e f v = rw (e, f) v
 
 some_of_both : (p q : ℕ) (y z : Root) → 0 < p + q → Above y → Above z → Above (plus (times (count p) y) (times (count q) z))
 some_of_both zero zero y z h a b = absurd (omega arith)

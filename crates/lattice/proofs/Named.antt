@@ -1,13 +1,12 @@
 -- The two least as numbers.
-use Rattle.std.proofs.Common.{◌≡◌, ℕ, ◌*◌, ◌≤◌, ◌^◌, ◌⊎◌, max, subst, arith, inl, inr}
-use Rattle.std.specs.Prelude.{ℤ, pos, ◌-ℤ◌, ◌*ℤ◌}
-use Rattle.std.proofs.Math.Nat.{mul-le-mul_left}
-use Rattle.exact.specs.Number.{ExactNumber, Positive, Same, Less}
+use Rattle.std.proofs.Common.{◌≡◌, ℕ, ◌⊎◌, max, sym, subst, arith, inl, inr}
+use Rattle.std.specs.Prelude.{pos, ◌-ℤ◌, ◌*ℤ◌}
+use Rattle.exact.specs.Number.{ExactNumber, Same, Less}
 use Rattle.exact.proofs.Ring.{is_eq, is_mul, is_sub, is_lit}
 use Rattle.exact.proofs.Order.{same_turned}
-use Rattle.exact.proofs.Positive.{scaled}
+use Rattle.exact.proofs.Positive.{moved, scaled}
 use Rattle.exact.proofs.Told.{same_on, less_values}
-use Rattle.lattice.specs.Search.{IsWindow, IsSeen, IsSeenValue}
+use Rattle.lattice.specs.Search.{IsSeen, IsSeenValue}
 use Rattle.lattice.specs.Found.{IsBelow, AreSameNumerators, Holds, value_of}
 use Rattle.lattice.specs.declared.found.Numerators.{Numerators}
 use Rattle.lattice.specs.declared.found.Found.{Found}
@@ -19,11 +18,8 @@ abbrev value : Window → Numerators → ExactNumber
 value w s = value_of w.d w.k s.whole s.root
 
 below_less : (w : Window) (s t : Numerators) → IsBelow s t → Less (value w s) (value w t)
-below_less w s t h = carried _ _ _ _ (spread t.whole s.whole w.k (max 1 w.d)) (spread t.root s.root w.k (max 1 w.d)) (scaled _ _ (max 1 w.d) (omega arith) h.below)
+below_less w s t h = moved _ _ _ _ (sym (spread t.whole s.whole w.k (max 1 w.d))) (sym (spread t.root s.root w.k (max 1 w.d))) (scaled _ _ (max 1 w.d) (omega arith) h.below)
   where
-    carried : (a a' b b' : ℤ) → a ≡ a' → b ≡ b' → Positive a b → Positive a' b'
-    carried a a' b b' e f v = rw (← e, ← f) v
-
     spread : (a b k d : ℕ) → (pos a -ℤ pos b) *ℤ pos d ≡ (pos a -ℤ pos k) *ℤ pos d -ℤ (pos b -ℤ pos k) *ℤ pos d
     spread a b k d = is_eq (is_mul (is_sub (is_lit a) (is_lit b)) (is_lit d)) (is_sub (is_mul (is_sub (is_lit a) (is_lit k)) (is_lit d)) (is_mul (is_sub (is_lit b) (is_lit k)) (is_lit d))) (omega arith)
 

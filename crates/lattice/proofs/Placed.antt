@@ -9,7 +9,7 @@ use Rattle.exact.proofs.Unique.{triple}
 use Rattle.lattice.specs.Side.{NotNegative, NotBelow}
 use Rattle.lattice.specs.Lattice.{Measures, IsPlace, fraction}
 use Rattle.lattice.specs.Found.{value_of}
-use Rattle.lattice.proofs.Sides.{moved, nn_carried}
+use Rattle.lattice.proofs.Sides.{nn_moved, nn_carried}
 
 gap_none : (x y : ℤ) → x ≡ y → y -ℤ x ≡ pos 0
 gap_none x y e = omega (arith, ints)
@@ -24,7 +24,7 @@ at_most_nn x y h = elim h [ inl s ↦ inl (gap_none _ _ s.a, gap_none _ _ s.b) |
 pub nn_at_most : (x y : ExactNumber) → NotNegative (y.a *ℤ pos (den x) -ℤ x.a *ℤ pos (den y)) (y.b *ℤ pos (den x) -ℤ x.b *ℤ pos (den y)) → AtMost x y
 nn_at_most x y h = elim h [ inl z ↦ inl (record { a = none_gap _ _ z.0; b = none_gap _ _ z.1 }) | inr l ↦ inr l ]
 
--- a whole number of at most k in size, moved by k
+-- a whole number of at most k in size, nn_moved by k
 pub shifted : (a : ℤ) (k : ℕ) → unsigned_abs a ≤ k → (i : ℕ) × (a ≡ pos i -ℤ pos k) × (i ≤ 2 * k)
 shifted (pos n) k h = (n + k, omega (arith, ints), omega (arith, ints))
 shifted (negsuc n) k h = (k - suc n, omega (arith, ints), omega (arith, ints))
@@ -62,8 +62,8 @@ placed_at l m n i j u p hi hj h =
       below = h.below;
       i_small = hi;
       j_small = hj;
-      from_zero = record { side = moved _ _ _ _ (over_one (pos i -ℤ pos l.k) (max 1 l.d)) (over_one (pos j -ℤ pos l.k) (max 1 l.d)) (at_most_nn (whole 0) v h.from_zero) };
-      to_one = record { side = moved _ _ _ _ (below_one l.d (max 1 l.d) i l.k (omega (arith, p))) (root_below (max 1 l.d) j l.k) (at_most_nn v (whole 1) h.to_one) };
+      from_zero = record { side = nn_moved _ _ _ _ (over_one (pos i -ℤ pos l.k) (max 1 l.d)) (over_one (pos j -ℤ pos l.k) (max 1 l.d)) (at_most_nn (whole 0) v h.from_zero) };
+      to_one = record { side = nn_moved _ _ _ _ (below_one l.d (max 1 l.d) i l.k (omega (arith, p))) (root_below (max 1 l.d) j l.k) (at_most_nn v (whole 1) h.to_one) };
       value = subst (λ z. Same u z) (sum_is l.d l.k n i j p) h.value;
     }
 
@@ -74,8 +74,8 @@ place_of l m n i j u p h =
       below = h.below;
       a_small = shifted_small i l.k h.i_small;
       b_small = shifted_small j l.k h.j_small;
-      from_zero = nn_at_most (whole 0) v (moved _ _ _ _ (sym (over_one (pos i -ℤ pos l.k) (max 1 l.d))) (sym (over_one (pos j -ℤ pos l.k) (max 1 l.d))) h.from_zero.side);
-      to_one = nn_at_most v (whole 1) (moved _ _ _ _ (sym (below_one l.d (max 1 l.d) i l.k (omega (arith, p)))) (sym (root_below (max 1 l.d) j l.k)) h.to_one.side);
+      from_zero = nn_at_most (whole 0) v (nn_moved _ _ _ _ (sym (over_one (pos i -ℤ pos l.k) (max 1 l.d))) (sym (over_one (pos j -ℤ pos l.k) (max 1 l.d))) h.from_zero.side);
+      to_one = nn_at_most v (whole 1) (nn_moved _ _ _ _ (sym (below_one l.d (max 1 l.d) i l.k (omega (arith, p)))) (sym (root_below (max 1 l.d) j l.k)) h.to_one.side);
       value = subst (λ z. Same u z) (sym (sum_is l.d l.k n i j p)) h.value;
     }
 
@@ -118,22 +118,22 @@ NearTo c top a b d = NotNegative (top *ℤ pos d -ℤ pos c *ℤ a) (neg_ℤ (po
 pub from_place : (c h : ℕ) (lo : ℤ) (u : ExactNumber) → AtMost (integer lo) (place c h u) → NearFrom c (lo +ℤ pos h) u.a u.b (den u)
 from_place c h lo u a =
     let p = dens (den u) (omega arith) in
-    moved _ _ _ _ (from_whole c h u.a u.b lo (den u) (max 1 (1 * den u)) (max 1 (max 1 (1 * den u) * 1)) p.0 p.1) (from_root c u.a u.b (max 1 (1 * den u)) (max 1 (max 1 (1 * den u) * 1))) (at_most_nn (integer lo) (place c h u) a)
+    nn_moved _ _ _ _ (from_whole c h u.a u.b lo (den u) (max 1 (1 * den u)) (max 1 (max 1 (1 * den u) * 1)) p.0 p.1) (from_root c u.a u.b (max 1 (1 * den u)) (max 1 (max 1 (1 * den u) * 1))) (at_most_nn (integer lo) (place c h u) a)
 
 pub place_from : (c h : ℕ) (lo : ℤ) (u : ExactNumber) → NearFrom c (lo +ℤ pos h) u.a u.b (den u) → AtMost (integer lo) (place c h u)
 place_from c h lo u a =
     let p = dens (den u) (omega arith) in
-    nn_at_most (integer lo) (place c h u) (moved _ _ _ _ (sym (from_whole c h u.a u.b lo (den u) (max 1 (1 * den u)) (max 1 (max 1 (1 * den u) * 1)) p.0 p.1)) (sym (from_root c u.a u.b (max 1 (1 * den u)) (max 1 (max 1 (1 * den u) * 1)))) a)
+    nn_at_most (integer lo) (place c h u) (nn_moved _ _ _ _ (sym (from_whole c h u.a u.b lo (den u) (max 1 (1 * den u)) (max 1 (max 1 (1 * den u) * 1)) p.0 p.1)) (sym (from_root c u.a u.b (max 1 (1 * den u)) (max 1 (max 1 (1 * den u) * 1)))) a)
 
 pub to_place : (c h : ℕ) (hi : ℤ) (u : ExactNumber) → AtMost (place c h u) (integer hi) → NearTo c (hi +ℤ pos h) u.a u.b (den u)
 to_place c h hi u a =
     let p = dens (den u) (omega arith) in
-    moved _ _ _ _ (to_whole c h u.a u.b hi (den u) (max 1 (1 * den u)) (max 1 (max 1 (1 * den u) * 1)) p.0 p.1) (to_root c u.a u.b (max 1 (1 * den u)) (max 1 (max 1 (1 * den u) * 1))) (at_most_nn (place c h u) (integer hi) a)
+    nn_moved _ _ _ _ (to_whole c h u.a u.b hi (den u) (max 1 (1 * den u)) (max 1 (max 1 (1 * den u) * 1)) p.0 p.1) (to_root c u.a u.b (max 1 (1 * den u)) (max 1 (max 1 (1 * den u) * 1))) (at_most_nn (place c h u) (integer hi) a)
 
 pub place_to : (c h : ℕ) (hi : ℤ) (u : ExactNumber) → NearTo c (hi +ℤ pos h) u.a u.b (den u) → AtMost (place c h u) (integer hi)
 place_to c h hi u a =
     let p = dens (den u) (omega arith) in
-    nn_at_most (place c h u) (integer hi) (moved _ _ _ _ (sym (to_whole c h u.a u.b hi (den u) (max 1 (1 * den u)) (max 1 (max 1 (1 * den u) * 1)) p.0 p.1)) (sym (to_root c u.a u.b (max 1 (1 * den u)) (max 1 (max 1 (1 * den u) * 1)))) a)
+    nn_at_most (place c h u) (integer hi) (nn_moved _ _ _ _ (sym (to_whole c h u.a u.b hi (den u) (max 1 (1 * den u)) (max 1 (max 1 (1 * den u) * 1)) p.0 p.1)) (sym (to_root c u.a u.b (max 1 (1 * den u)) (max 1 (max 1 (1 * den u) * 1)))) a)
 
 -- kept from one triple of a number to another
 scaled_gap : (c : ℕ) (low a a' : ℤ) (d d' : ℕ) → a *ℤ pos d' ≡ a' *ℤ pos d → (pos c *ℤ a -ℤ low *ℤ pos d) *ℤ pos d' ≡ (pos c *ℤ a' -ℤ low *ℤ pos d') *ℤ pos d

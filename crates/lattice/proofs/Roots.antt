@@ -6,7 +6,7 @@ use Rattle.std.proofs.lemmas.Bool.{cases_lt}
 use Rattle.exact.proofs.Ring.{is_eq, is_mul, is_neg, is_lit}
 use Rattle.exact.proofs.Positive.{scaled, from_high, from_low}
 use Rattle.lattice.specs.Side.{NotNegative}
-use Rattle.lattice.proofs.Sides.{moved, nn_sum, nn_whole}
+use Rattle.lattice.proofs.Sides.{nn_moved, nn_sum, nn_whole}
 
 -- r is the whole part of c √2
 pub record IsBase (c r : ℕ) : Type 0 where
@@ -30,14 +30,14 @@ neg_none y = is_eq (is_neg (is_lit (0 * y))) (is_lit 0) (omega arith)
 -- x c √2 is at most x (r + 1), and x r at most x c √2
 over : (c r x : ℕ) → IsBase c r → NotNegative (pos (x * suc r)) (neg_ℤ (pos (x * c)))
 over c r zero b = inl (none (suc r), neg_none c)
-over c r (suc x) b = moved _ _ _ _ (times (suc x) (suc r)) (neg_times (suc x) c) (inr (scaled _ _ (suc x) (omega arith) (from_high (suc r) c b.c_some b.above)))
+over c r (suc x) b = nn_moved _ _ _ _ (times (suc x) (suc r)) (neg_times (suc x) c) (inr (scaled _ _ (suc x) (omega arith) (from_high (suc r) c b.c_some b.above)))
 
 under : (c r x : ℕ) → IsBase c r → NotNegative (neg_ℤ (pos (x * r))) (pos (x * c))
 under c r zero b = inl (neg_none r, none c)
-under c r (suc x) b = moved _ _ _ _ (neg_times (suc x) r) (times (suc x) c) (inr (scaled _ _ (suc x) (omega arith) (from_low r c b.r_some b.below)))
+under c r (suc x) b = nn_moved _ _ _ _ (neg_times (suc x) r) (times (suc x) c) (inr (scaled _ _ (suc x) (omega arith) (from_low r c b.r_some b.below)))
 
 rise : (c r p n s t x : ℕ) → IsBase c r → s ≡ t + x → NotNegative (pos p -ℤ pos n) (pos (c * s) -ℤ pos (c * t)) → n ≤ p + x * suc r
-rise c r p n s t x b e h = nn_whole (p + x * suc r) n (moved _ _ _ _ (gathered p n (x * suc r)) (gone (c * s) (c * t) (x * c) (rw e (omega arith))) (nn_sum _ _ _ _ h (over c r x b)))
+rise c r p n s t x b e h = nn_whole (p + x * suc r) n (nn_moved _ _ _ _ (gathered p n (x * suc r)) (gone (c * s) (c * t) (x * c) (rw e (omega arith))) (nn_sum _ _ _ _ h (over c r x b)))
   where
     gathered : (p n y : ℕ) → (pos p -ℤ pos n) +ℤ pos y ≡ pos (p + y) -ℤ pos n
     gathered p n y = omega (arith, ints)
@@ -46,7 +46,7 @@ rise c r p n s t x b e h = nn_whole (p + x * suc r) n (moved _ _ _ _ (gathered p
     gone s t y e = omega (arith, ints)
 
 fall : (c r p n s t x : ℕ) → IsBase c r → t ≡ s + x → NotNegative (pos p -ℤ pos n) (pos (c * s) -ℤ pos (c * t)) → n + x * r ≤ p
-fall c r p n s t x b e h = nn_whole p (n + x * r) (moved _ _ _ _ (gathered p n (x * r)) (gone (c * s) (c * t) (x * c) (rw e (omega arith))) (nn_sum _ _ _ _ h (under c r x b)))
+fall c r p n s t x b e h = nn_whole p (n + x * r) (nn_moved _ _ _ _ (gathered p n (x * r)) (gone (c * s) (c * t) (x * c) (rw e (omega arith))) (nn_sum _ _ _ _ h (under c r x b)))
   where
     gathered : (p n y : ℕ) → (pos p -ℤ pos n) +ℤ neg_ℤ (pos y) ≡ pos p -ℤ pos (n + y)
     gathered p n y = omega (arith, ints)

@@ -1,9 +1,9 @@
 -- The two least of a set, as the set grows.
 use Rattle.std.proofs.Common.{◌≡◌, ℕ, ◌⊎◌, arith, sym, subst, inl, inr}
-use Rattle.std.specs.Prelude.{ℤ, pos, neg_ℤ, ◌+ℤ◌, ◌-ℤ◌}
+use Rattle.std.specs.Prelude.{pos, neg_ℤ, ◌+ℤ◌, ◌-ℤ◌}
 use Rattle.std.proofs.lemmas.Int.{ints}
 use Rattle.exact.specs.Number.{Positive}
-use Rattle.exact.proofs.Positive.{positive_sum}
+use Rattle.exact.proofs.Positive.{moved, positive_sum}
 use Rattle.lattice.specs.Found.{IsBelow, AreSameNumerators, Holds, Inserts}
 use Rattle.lattice.specs.declared.found.Numerators.{Numerators}
 use Rattle.lattice.specs.declared.found.Found.{Found}
@@ -16,11 +16,8 @@ pub spot_is : (s t : Numerators) → AreSameNumerators s t → s ≡ t
 spot_is s t e = spot_of s.whole s.root t.whole t.root e.whole e.root
 
 pub below_on : (s t u : Numerators) → IsBelow s t → IsBelow t u → IsBelow s u
-below_on s t u h k = record { below = carried _ _ _ _ (over s.whole t.whole u.whole) (over s.root t.root u.root) (positive_sum _ _ _ _ h.below k.below) }
+below_on s t u h k = record { below = moved _ _ _ _ (sym (over s.whole t.whole u.whole)) (sym (over s.root t.root u.root)) (positive_sum _ _ _ _ h.below k.below) }
   where
-    carried : (a a' b b' : ℤ) → a ≡ a' → b ≡ b' → Positive a b → Positive a' b'
-    carried a a' b b' e f v = rw (← e, ← f) v
-
     over : (a b c : ℕ) → (pos b -ℤ pos a) +ℤ (pos c -ℤ pos b) ≡ pos c -ℤ pos a
     over a b c = omega (arith, ints)
 

@@ -14,7 +14,7 @@ use Rattle.lattice.specs.Found.{value_of}
 use Rattle.lattice.specs.declared.search.Window.{Window}
 use Rattle.lattice.specs.declared.near.Near.{Near}
 use Rattle.lattice.specs.declared.near.Near.TheVariants.{Nothing, One, Two}
-use Rattle.lattice.proofs.Sides.{moved, nn_pair, nn_times}
+use Rattle.lattice.proofs.Sides.{nn_moved, nn_pair, nn_times}
 use Rattle.lattice.proofs.Fitting.{below_field}
 use Rattle.lattice.proofs.Placed.{Placed, NearFrom, NearTo, shifted, placed_at, place_of, from_same, to_same, place_from, place_to, to_place, from_place}
 
@@ -76,8 +76,8 @@ fit l m x u r n i j b e s = record {
   j_small = s.placed.j_small;
   from_zero = s.placed.from_zero;
   to_one = s.placed.to_one;
-  from = record { side = moved _ _ _ _ (from_eq 400000000000000 l.d l.k (n * l.d + i) r (l.tol * 1000000) (l.d * (l.tol * 1000000)) (max 1 l.d) (low_end l x) (low_is x (l.tol * 1000000) 200000000000000 r e) (omega (arith, b.d_some)) refl) (from_root_eq 400000000000000 j l.k) s.from };
-  to = record { side = moved _ _ _ _ (to_eq 400000000000000 l.d l.k (n * l.d + i) r (max 1 l.d) (top_end l x) (sym e) (omega (arith, b.d_some))) (to_root_eq 400000000000000 j l.k) s.to };
+  from = record { side = nn_moved _ _ _ _ (from_eq 400000000000000 l.d l.k (n * l.d + i) r (l.tol * 1000000) (l.d * (l.tol * 1000000)) (max 1 l.d) (low_end l x) (low_is x (l.tol * 1000000) 200000000000000 r e) (omega (arith, b.d_some)) refl) (from_root_eq 400000000000000 j l.k) s.from };
+  to = record { side = nn_moved _ _ _ _ (to_eq 400000000000000 l.d l.k (n * l.d + i) r (max 1 l.d) (top_end l x) (sym e) (omega (arith, b.d_some))) (to_root_eq 400000000000000 j l.k) s.to };
 }
 
 pub seen_value : (l : Measures) (m : ℕ) (x : ℤ) (r : ℕ) → IsLattice l → pos r ≡ top_end l x → (u : ExactNumber) → IsNearValue l m x u → IsSeenValue (window_of l.d l.k l.tol r) m u
@@ -99,9 +99,9 @@ value_seen l m x r b e u h =
       (n, pos i -ℤ pos l.k, pos s.root -ℤ pos l.k, place_of l m n i s.root u b.d_some placed),
       record {
         from = place_from 400000000000000 200000000000000 (x -ℤ pos (l.tol * 1000000)) u (from_same 400000000000000 (low_end l x) v u back
-            (moved _ _ _ _ (sym (from_eq 400000000000000 l.d l.k (n * l.d + i) r (l.tol * 1000000) (l.d * (l.tol * 1000000)) (max 1 l.d) (low_end l x) (low_is x (l.tol * 1000000) 200000000000000 r e) (omega (arith, b.d_some)) refl)) (sym (from_root_eq 400000000000000 s.root l.k)) f.from.side));
+            (nn_moved _ _ _ _ (sym (from_eq 400000000000000 l.d l.k (n * l.d + i) r (l.tol * 1000000) (l.d * (l.tol * 1000000)) (max 1 l.d) (low_end l x) (low_is x (l.tol * 1000000) 200000000000000 r e) (omega (arith, b.d_some)) refl)) (sym (from_root_eq 400000000000000 s.root l.k)) f.from.side));
         to = place_to 400000000000000 200000000000000 (x +ℤ pos (l.tol * 1000000)) u (to_same 400000000000000 (top_end l x) v u back
-            (moved _ _ _ _ (sym (to_eq 400000000000000 l.d l.k (n * l.d + i) r (max 1 l.d) (top_end l x) (sym e) (omega (arith, b.d_some)))) (sym (to_root_eq 400000000000000 s.root l.k)) f.to.side));
+            (nn_moved _ _ _ _ (sym (to_eq 400000000000000 l.d l.k (n * l.d + i) r (max 1 l.d) (top_end l x) (sym e) (omega (arith, b.d_some)))) (sym (to_root_eq 400000000000000 s.root l.k)) f.to.side));
       },
     )
 
@@ -111,7 +111,7 @@ below_axis l m x q b e u h =
     let s = stand l m x u b h in
     let t = s.3 in
     let side : NotNegative (pos (400000000000000 * l.k) -ℤ pos (suc q * l.d + 400000000000000 * (s.0 * l.d + s.1))) (pos (400000000000000 * l.k) -ℤ pos (400000000000000 * s.2)) =
-    moved _ _ _ _ (to_neg_eq 400000000000000 l.d l.k (s.0 * l.d + s.1) (suc q) (max 1 l.d) (top_end l x) e (omega (arith, b.d_some))) (to_root_eq 400000000000000 s.2 l.k) t.to in
+    nn_moved _ _ _ _ (to_neg_eq 400000000000000 l.d l.k (s.0 * l.d + s.1) (suc q) (max 1 l.d) (top_end l x) e (omega (arith, b.d_some))) (to_root_eq 400000000000000 s.2 l.k) t.to in
     let low = nn_pair (400000000000000 * s.1) (400000000000000 * l.k) (400000000000000 * l.k) (suc q * l.d + 400000000000000 * (s.0 * l.d + s.1)) (400000000000000 * s.2) (400000000000000 * l.k) (nn_times s.1 l.k s.2 l.k 400000000000000 (lit< tt) t.placed.from_zero.side) side in
     omega (arith, low, b.d_some)
 

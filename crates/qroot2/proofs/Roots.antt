@@ -8,7 +8,7 @@ use Rattle.std.proofs.lemmas.Bool.{cases_lt}
 use Rattle.exact.specs.Number.{ExactNumber, Positive, den, mul, whole}
 use Rattle.exact.specs.Floor.{IsFloor}
 use Rattle.exact.proofs.Root.{irrational}
-use Rattle.exact.proofs.Positive.{positive_sum}
+use Rattle.exact.proofs.Positive.{moved, positive_sum}
 use Rattle.exact.proofs.Unique.{triple}
 use Rattle.exact.proofs.Ring.{is_eq, is_le, is_lt, is_add, is_sub, is_neg, is_mul, is_atom, is_lit}
 use Rattle.qroot2.specs.Root.{IsRootOf, IsRootPart}
@@ -104,26 +104,14 @@ quotient (negsuc n) d p = (
 not_below : (x : ℤ) (b l : ℤ) → pos 0 ≤ℤ x → Positive (neg_ℤ l) b ⊎ ((l ≡ pos 0) × (b ≡ pos 0)) → ((x +ℤ neg_ℤ l ≡ pos 0) × (b ≡ pos 0)) ⊎ Positive (x +ℤ neg_ℤ l) b
 not_below (negsuc n) b l h r = absurd (omega (arith, ints))
 not_below (pos zero) b l h (inl p) = inr (moved _ _ _ _ (omega (arith, ints)) refl p)
-  where
-    moved : (a a' b b' : ℤ) → a ≡ a' → b ≡ b' → Positive a' b' → Positive a b
-    moved a a' b b' e f v = rw (e, f) v
 not_below (pos zero) b l h (inr z) = inl (rw (z.0) (omega (arith, ints)), z.1)
 not_below (pos (suc n)) b l h (inl p) = inr (moved _ _ _ _ refl (omega (arith, ints)) (positive_sum (pos (suc n)) (pos 0) (neg_ℤ l) b (inl (omega (arith, ints), omega (arith, ints), omega (arith, ints))) p))
-  where
-    moved : (a a' b b' : ℤ) → a ≡ a' → b ≡ b' → Positive a' b' → Positive a b
-    moved a a' b b' e f v = rw (e, f) v
 not_below (pos (suc n)) b l h (inr z) = inr (rw (z.0, z.1) (inl (omega (arith, ints), omega (arith, ints), omega (arith, ints))))
 
 plus_whole : (z a b : ℤ) → pos 0 ≤ℤ z → Positive a b → Positive (z +ℤ a) b
 plus_whole (negsuc n) a b h p = absurd (omega (arith, ints))
 plus_whole (pos zero) a b h p = moved _ _ _ _ (omega (arith, ints)) refl p
-  where
-    moved : (a a' b b' : ℤ) → a ≡ a' → b ≡ b' → Positive a' b' → Positive a b
-    moved a a' b b' e f v = rw (e, f) v
 plus_whole (pos (suc n)) a b h p = moved _ _ _ _ refl (omega (arith, ints)) (positive_sum (pos (suc n)) (pos 0) a b (inl (omega (arith, ints), omega (arith, ints), omega (arith, ints))) p)
-  where
-    moved : (a a' b b' : ℤ) → a ≡ a' → b ≡ b' → Positive a' b' → Positive a b
-    moved a a' b b' e f v = rw (e, f) v
 
 -- n x over the denominator d, less k
 gap_a : (n : ℕ) (a b k l : ℤ) (d : ℕ) → (pos n *ℤ a +ℤ pos 2 *ℤ (pos 0 *ℤ b)) *ℤ pos 1 -ℤ k *ℤ pos d ≡ ((pos n *ℤ a +ℤ l) -ℤ k *ℤ pos d) +ℤ neg_ℤ l
