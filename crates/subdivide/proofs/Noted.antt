@@ -4,10 +4,9 @@ use Rattle.std.specs.Prelude.{All, Contains, slice_get}
 use Rattle.std.proofs.lemmas.Bool.{false≢true, cases_lt, cases_order}
 use Rattle.std.proofs.lemmas.List.Elements.{All-push, All-weaker, Contains-push, Contains-append_left}
 use Rattle.std.proofs.lemmas.Option.{slice_get_within, slice_get_read}
-use Rattle.exact.specs.Plane.{ExactPoint, ExactSegment, SamePoint, Cross, IsPointCanonical, IsPointRepresentable}
+use Rattle.exact.specs.Plane.{ExactPoint, ExactSegment, SamePoint, Cross, IsPointCanonical}
 use Rattle.geometry.proofs.PointOrder.{same_itself as point_itself}
 use Rattle.geometry.proofs.Segments.{end_p, end_q}
-use Rattle.plane.proofs.callers.Crossed.{held as moved_number}
 use Rattle.chains.proofs.callers.Elements.{head_has, has_cases, has_none}
 use Rattle.subdivide.specs.declared.line.End.{End}
 use Rattle.subdivide.specs.declared.line.End.TheVariants as end
@@ -46,7 +45,7 @@ pub settled_grows : (f g : Findings) (i j : ℕ) (s t : ExactSegment) → Grows 
 settled_grows f g i j s t h a = record {
   each = λ v o. elim (a.each v o) [
     | inl x ↦ inl (cut_grows f g i v h x.0, cut_grows f g j v h x.1)
-    | inr x ↦ inr (x.0, h.least i j x.1)
+    | inr x ↦ inr (h.least i j x)
   ];
 }
 
@@ -240,9 +239,6 @@ pub record IsRefused (first second : ℕ) (old new : Found) : Type 0 where
   pub here : IsAtMost new.least first second
   pub least : (new.least ≡ old.least) ⊎ (new.least ≡ Some (record { first = first; second = second }))
 
-represented : (v w : ExactPoint) → SamePoint v w → IsPointRepresentable v → IsPointRepresentable w
-represented v w s h = (moved_number v.x w.x s.x h.0, moved_number v.y w.y s.y h.1)
-
 pub refused : (first second : ℕ) (old new : Found) → IsRefused first second old new → IsNoted first second touch.OutOfRange old new
 refused first second old new w = record {
   leads = λ lines l m h a b c. record {
@@ -265,7 +261,7 @@ refused first second old new w = record {
         many = λ e. k.many (sym w.full ∙ e);
       },
       record { points = λ n v e. e; cuts = λ d e. e; least = λ i j e. w.keeps i j (subst (λ z. IsAtMost z i j) (sym k.least) e) },
-      record { each = λ v o. inr (λ r. c.2 (represented v c.0 (c.1.only v o) r), w.here) },
+      record { each = λ v o. inr w.here },
     );
   };
 }
@@ -287,6 +283,12 @@ one_settled lines f first second l m a b s = λ i u w c e g. elim (has_cases fir
   where
     moved : (i : ℕ) (u w : MarkedLine) → first ≡ i → l ≡ u → m ≡ w → Settled f i second u.seg w.seg
     moved i u w q x y = rw (← q, ← x, ← y) s
+
+-- two lines after the least pair
+pub none_lesser : (lines : List MarkedLine) (first second : ℕ) (found : Found) (l m : MarkedLine) → IsAtMost found.least first second → slice_get lines first ≡ Some l → slice_get lines second ≡ Some m
+    → Leads lines found found (AreSettled lines second (first ∷ []))
+none_lesser lines first second found l m h e g = leads_itself lines found (AreSettled lines second (first ∷ []))
+    (λ f k. one_settled lines f first second l m e g (record { each = λ v o. inr (subst (λ z. IsAtMost z first second) k.least h) }))
 
 pub noted_leads : (lines : List MarkedLine) (first second : ℕ) (t : Touch) (old new : Found) (l m : MarkedLine) → IsNoted first second t old new → first < second → slice_get lines first ≡ Some l → slice_get lines second ≡ Some m → IsTouch l.seg m.seg t → Leads lines old new (AreSettled lines second (first ∷ []))
 noted_leads lines first second t old new l m n h a b c = leads_weaker lines old new (λ f. Settled f first second l.seg m.seg) (AreSettled lines second (first ∷ [])) (λ f s. one_settled lines f first second l m a b s) (n.leads lines l m h a b c)

@@ -46,7 +46,7 @@ all_found pattern ls found s a e = record {
     ends = λ i l h. (let x = s.kept.sound.ends i l h in record { from = x.from; to = x.to; cut_from = x.cut_from; cut_to = x.cut_to });
     least = λ p h. absurd (none_is h);
   };
-  settled = λ i j l m h k f g. record { each = λ v o. elim ((s.settled i j l m h k f g).each v o) [ inl x ↦ inl x | inr x ↦ absurd (subst (λ z. IsAtMost z i j) none x.1) ] };
+  settled = λ i j l m h k f g. record { each = λ v o. elim ((s.settled i j l m h k f g).each v o) [ inl x ↦ inl x | inr x ↦ absurd (subst (λ z. IsAtMost z i j) none x) ] };
 }
   where
     none : s.findings.least ≡ None
@@ -143,7 +143,7 @@ swept_out pattern ls found p l m s a e f g = first_out pattern a.is x.index y.in
         settled : (d w : MarkedLine) → slice_get ls (3 + i) ≡ Some d → slice_get ls (3 + j) ≡ Some w → Cross d.seg w.seg o.3.0 → ⊥
         settled d w q r t = elim ((s.settled (3 + i) (3 + j) d w (omega (arith, h)) (slice_get_within ls (3 + j) w r) q r).each o.3.0 t.here) [
           | inl z ↦ o.3.2 (same_held o.3.0 z.0.value z.0.same (All-contains IsPointCanonical s.findings.points z.0.value s.kept.sound.canonical (has_at s.findings.points z.0.point z.0.value z.0.stands)))
-          | inr z ↦ at_most z.1
+          | inr z ↦ at_most z
         ]
 
 -- as the code asks and answers

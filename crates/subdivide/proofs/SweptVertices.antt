@@ -53,8 +53,8 @@ vertex_cuts pattern ls points cuts a i l v e x o = elim (found pattern (pattern_
         by j m f c = elim (cases_order i j) [
           | inl q ↦ absurd (no_self_cross l.seg k.0 v k.1 (subst (λ (z : MarkedLine). Cross l.seg z.seg v) (some_is (sym f ∙ ap (slice_get ls) (sym q) ∙ e)) c))
           | inr r ↦ elim r [
-            | inl h ↦ elim ((a.settled i j l m h (slice_get_within ls j m f) e f).each v c.here) [ inl g ↦ g.0 | inr g ↦ absurd g.1 ]
-            | inr h ↦ elim ((a.settled j i m l h (slice_get_within ls i l e) f e).each v (c.here.1, c.here.0)) [ inl g ↦ g.1 | inr g ↦ absurd g.1 ]
+            | inl h ↦ elim ((a.settled i j l m h (slice_get_within ls j m f) e f).each v c.here) [ inl g ↦ g.0 | inr g ↦ absurd g ]
+            | inr h ↦ elim ((a.settled j i m l h (slice_get_within ls i l e) f e).each v (c.here.1, c.here.0)) [ inl g ↦ g.1 | inr g ↦ absurd g ]
           ]
         ]
           where

@@ -72,11 +72,12 @@ pub record IsSound (lines : List MarkedLine) (f : Findings) : Type 0 where
   pub ends : (i : ℕ) (l : MarkedLine) → slice_get lines i ≡ Some l → HasEnds f i l.seg
   pub least : (p : Pair) → f.least ≡ Some p → IsOut lines p
 
--- each point that lines i and j, of these segments, have in common cuts both, or cannot be held
+-- each point that lines i and j, of these segments, have in common cuts both, or a pair that comes not after
+-- them is out of range
 pub record Settled (f : Findings) (i j : ℕ) (s t : ExactSegment) : Type 0 where
   pub each : (v : ExactPoint) → OnBoth v s t
       → (IsCutAt f.points f.cuts i v × IsCutAt f.points f.cuts j v)
-      ⊎ ((¬ IsPointRepresentable v) × IsAtMost f.least i j)
+      ⊎ IsAtMost f.least i j
 
 -- nothing that was found is lost
 pub record Grows (old new : Findings) : Type 0 where

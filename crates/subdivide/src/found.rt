@@ -113,7 +113,8 @@ impl Found {
     }
 
     /// Takes in what two lines have in common, the first before the second. Lines of one direction have at
-    /// most ends in common.
+    /// most ends in common. Where a pair that comes not after them is out of range, nothing that they have in
+    /// common can change the answer.
     fn meet_one(&mut self, lines: &[MarkedLine], first: u32, second: u32) -> Result<(), NoMemory>
         requires swept { AreSwept lines.now }
         requires ordered { first < second }
@@ -121,6 +122,9 @@ impl Found {
         ensures { OnOk result (Leads lines.now self.old self.new (AreSettled lines.now second (first ∷ []))) }
     {
         let (s, t) = (&lines[first as usize], &lines[second as usize]);
+        if is_at_most(self.least, first, second) {
+            return Ok(());
+        }
         if s.dir == t.dir {
             return Ok(());
         }

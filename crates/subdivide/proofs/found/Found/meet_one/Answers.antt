@@ -3,10 +3,16 @@ use Rattle.std.proofs.lemmas.Bool.{eqb-true}
 use Rattle.std.proofs.lemmas.Option.{slice_get_read}
 use Rattle.std.proofs.lemmas.Result.{on_ok_weaker}
 use Rattle.geometry.specs.Meeting.{Along}
-use Rattle.subdivide.proofs.Noted.{noted_ends, noted_leads}
+use Rattle.subdivide.proofs.Noted.{noted_ends, noted_leads, none_lesser}
 use Rattle.subdivide.proofs.Touched.{parallel_ends}
 use Rattle.subdivide.specs.declared.touch.Touch.TheVariants as touch
 use Rattle.subdivide.proofs.found.Found.meet_one.Goals as goal
+
+pub returns-then-is_at_most : goal.returns-then-is_at_most
+returns-then-is_at_most c =
+    let l = slice_get_read c.args.lines.now (length c.args.lines.now) c.args.first c.index-lines-first.result refl (omega (arith, c.requires.ordered, c.requires.within)) c.index-lines-first.is in
+    let m = slice_get_read c.args.lines.now (length c.args.lines.now) c.args.second c.index-lines-second.result refl c.requires.within c.index-lines-second.is in
+    none_lesser c.args.lines.now c.args.first c.args.second c.args.self.now c.index-lines-first.result c.index-lines-second.result (c.is_at_most.ensures.0 c.if-is_at_most.true) l m
 
 pub returns-then-eq : goal.returns-then-eq
 returns-then-eq c =
