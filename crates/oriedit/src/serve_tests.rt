@@ -16,10 +16,32 @@ fn end_of(alloc: Global, bytes: &[u8], piece: usize) -> Result<MemEnd, Fail>
     Ok(MemEnd { source, sink })
 }
 
-/// A run of these words over these connections, at a door of which the calls in `fail` fail.
-fn served(
+/// Connections that give these requests, each in pieces of this size.
+fn ends_of(alloc: Global, requests: &[&[u8]], piece: usize) -> Result<Vec<MemEnd>, Fail>
+    requires { 1 ≤ piece }
+{
+    let mut ends = Vec::with_capacity(alloc, requests.len())?;
+    for request in requests {
+        ends.push(end_of(alloc, request, piece)?)?;
+    }
+    Ok(ends)
+}
+
+/// Whether these ends hold these answers, each its own.
+fn hold(ends: &[MemEnd], answers: &[&[u8]]) -> bool {
+    let mut same = ends.len() == answers.len();
+    for (end, answer) in ends.iter().zip(answers.iter()) {
+        same = same && end.sink.bytes() == *answer;
+    }
+    same
+}
+
+/// A run of these words over these connections, at a door of which the calls in `fail` fail, and over
+/// a keeper of which the calls in `others` fail.
+fn run_over(
     alloc: Global,
     words: &[&str],
+    others: Vec<u64>,
     ends: Vec<MemEnd>,
     fail: Vec<u64>,
 ) -> Result<(Status, MemDoor), Fail> {
@@ -29,7 +51,7 @@ fn served(
     }
     let mut source = MemSource::new(Vec::new(alloc), 1, Vec::new(alloc));
     let mut sink = MemSink::new(Vec::new(alloc), 0, Vec::new(alloc));
-    let mut keeper = MemKeeper::new(alloc, Vec::new(alloc), Vec::new(alloc));
+    let mut keeper = MemKeeper::new(alloc, Vec::new(alloc), others);
     let mut door = MemDoor::new(ends, fail);
     let status = run(
         alloc,
@@ -42,6 +64,16 @@ fn served(
     Ok((status, door))
 }
 
+/// The same over a keeper of which no call fails.
+fn served(
+    alloc: Global,
+    words: &[&str],
+    ends: Vec<MemEnd>,
+    fail: Vec<u64>,
+) -> Result<(Status, MemDoor), Fail> {
+    run_over(alloc, words, Vec::new(alloc), ends, fail)
+}
+
 /// Whether these requests get these answers, with their bytes in pieces of this size.
 fn answers_by(
     alloc: Global,
@@ -51,17 +83,9 @@ fn answers_by(
 ) -> Result<bool, Fail>
     requires { 1 ≤ piece }
 {
-    let mut ends = Vec::with_capacity(alloc, requests.len())?;
-    for request in requests {
-        ends.push(end_of(alloc, request, piece)?)?;
-    }
+    let ends = ends_of(alloc, requests, piece)?;
     let (status, door) = served(alloc, &["serve", "8080"], ends, Vec::new(alloc))?;
-    let finished = door.finished();
-    let mut same = finished.len() == answers.len();
-    for (end, answer) in finished.iter().zip(answers.iter()) {
-        same = same && end.sink.bytes() == *answer;
-    }
-    Ok(status == Status::Ok && same)
+    Ok(status == Status::Ok && hold(door.finished(), answers))
 }
 
 /// The same, whole and in pieces of one byte and of seven.
@@ -75,6 +99,9 @@ fn answers(alloc: Global, requests: &[&[u8]], texts: &[&[u8]]) -> Result<bool, F
 
 const CREATED: &[u8] =
     b"HTTP/1.1 201 Created\r\nContent-Type: text/plain\r\nContent-Length: 7\r\nConnection: close\r\n\r\ndone 0\n";
+
+const LISTED: &[u8] =
+    b"HTTP/1.1 200 OK\r\nContent-Type: text/plain\r\nContent-Length: 11\r\nConnection: close\r\n\r\nnames 1\nsq\n";
 
 #[test]
 fn an_edit_that_comes_twice_is_stale(rt: HostRuntime) -> Result<(), Fail> {
@@ -123,6 +150,53 @@ fn a_door_that_fails_is_a_door_fault(rt: HostRuntime) -> Result<(), Fail> {
     let fail = [1u64].to_vec(alloc)?;
     let (status, _door) = served(alloc, &["serve", "8080"], Vec::new(alloc), fail)?;
     assert_eq!(rt; status, Status::DoorFault);
+    Ok(())
+}
+
+#[test]
+fn a_door_that_fails_later_has_its_first_ends_answered(rt: HostRuntime) -> Result<(), Fail> {
+    let alloc = rt.alloc();
+    let requests: [&[u8]; 3] = [
+        b"PUT /projects/sq HTTP/1.1\r\n\r\n",
+        b"GET /projects HTTP/1.1\r\n\r\n",
+        b"GET /projects HTTP/1.1\r\n\r\n",
+    ];
+    let ends = ends_of(alloc, &requests, 4096)?;
+    // The first call is that of the port, so the fourth is the third that asks for a connection.
+    let fail = [4u64].to_vec(alloc)?;
+    let (status, door) = served(alloc, &["serve", "8080"], ends, fail)?;
+    assert_eq!(rt; status, Status::DoorFault);
+    assert!(rt; hold(door.finished(), &[CREATED, LISTED]));
+    Ok(())
+}
+
+#[test]
+fn a_keeper_that_does_not_attach_comes_before_the_port(rt: HostRuntime) -> Result<(), Fail> {
+    let alloc = rt.alloc();
+    let ends = ends_of(alloc, &[b"PUT /projects/sq HTTP/1.1\r\n\r\n"], 4096)?;
+    let first = [1u64].to_vec(alloc)?;
+    let words = ["serve", "80", "--keep", "p.db"];
+    // The door would fail too, if it were asked.
+    let (status, door) = run_over(alloc, &words, first, ends, [1u64].to_vec(alloc)?)?;
+    assert_eq!(rt; status, Status::KeeperFault);
+    assert_eq!(rt; door.finished().len(), 0);
+    Ok(())
+}
+
+#[test]
+fn a_request_with_two_lengths_is_refused(rt: HostRuntime) -> Result<(), Fail> {
+    let two_lengths =
+        b"PUT /projects/sq HTTP/1.1\r\nContent-Length: 5\r\ncontent-length: 05\r\n\r\nhello";
+    let one_length_twice =
+        b"PUT /projects/sq HTTP/1.1\r\nContent-Length: 5\r\ncontent-length: 5\r\n\r\nhello";
+    let refused =
+        b"HTTP/1.1 400 Bad Request\r\nContent-Type: text/plain\r\nContent-Length: 11\r\nConnection: close\r\n\r\nbad length\n";
+    let requests: [&[u8]; 3] = [
+        two_lengths,
+        one_length_twice,
+        b"GET /projects HTTP/1.1\r\n\r\n",
+    ];
+    assert!(rt; answers(rt.alloc(), &requests, &[refused, CREATED, LISTED])?);
     Ok(())
 }
 
